@@ -1,5 +1,5 @@
--- The kinds of src/syntax_kind/syntax_kind_enum.rs, each under its name there: its number is its place in that enum.
--- Written by tools/lists; ./check compares it with the source. Assumes nothing: these are names of numbers.
+-- The kinds of src/syntax_kind/syntax_kind_enum.rs, each under its name there with - for _: its number is its place in that
+-- enum. Written by tools/lists; ./check compares it with the source. Assumes nothing: these are names of numbers.
 use Prim.Native.Nat.{ℕ}
 
 abbrev pub TOMBSTONE : ℕ
@@ -8,8 +8,8 @@ TOMBSTONE = 0
 abbrev pub EOF : ℕ
 EOF = 1
 
-abbrev pub DOUBLE_PLUS : ℕ
-DOUBLE_PLUS = 2
+abbrev pub DOUBLE-PLUS : ℕ
+DOUBLE-PLUS = 2
 
 abbrev pub SEMICOLON : ℕ
 SEMICOLON = 3
@@ -17,29 +17,29 @@ SEMICOLON = 3
 abbrev pub COMMA : ℕ
 COMMA = 4
 
-abbrev pub L_PAREN : ℕ
-L_PAREN = 5
+abbrev pub L-PAREN : ℕ
+L-PAREN = 5
 
-abbrev pub R_PAREN : ℕ
-R_PAREN = 6
+abbrev pub R-PAREN : ℕ
+R-PAREN = 6
 
-abbrev pub L_CURLY : ℕ
-L_CURLY = 7
+abbrev pub L-CURLY : ℕ
+L-CURLY = 7
 
-abbrev pub R_CURLY : ℕ
-R_CURLY = 8
+abbrev pub R-CURLY : ℕ
+R-CURLY = 8
 
-abbrev pub L_BRACK : ℕ
-L_BRACK = 9
+abbrev pub L-BRACK : ℕ
+L-BRACK = 9
 
-abbrev pub R_BRACK : ℕ
-R_BRACK = 10
+abbrev pub R-BRACK : ℕ
+R-BRACK = 10
 
-abbrev pub L_ANGLE : ℕ
-L_ANGLE = 11
+abbrev pub L-ANGLE : ℕ
+L-ANGLE = 11
 
-abbrev pub R_ANGLE : ℕ
-R_ANGLE = 12
+abbrev pub R-ANGLE : ℕ
+R-ANGLE = 12
 
 abbrev pub AT : ℕ
 AT = 13
@@ -104,8 +104,8 @@ EQ = 32
 abbrev pub EQ2 : ℕ
 EQ2 = 33
 
-abbrev pub FAT_ARROW : ℕ
-FAT_ARROW = 34
+abbrev pub FAT-ARROW : ℕ
+FAT-ARROW = 34
 
 abbrev pub BANG : ℕ
 BANG = 35
@@ -116,8 +116,8 @@ NEQ = 36
 abbrev pub MINUS : ℕ
 MINUS = 37
 
-abbrev pub THIN_ARROW : ℕ
-THIN_ARROW = 38
+abbrev pub THIN-ARROW : ℕ
+THIN-ARROW = 38
 
 abbrev pub LTEQ : ℕ
 LTEQ = 39
@@ -167,143 +167,143 @@ SHLEQ = 53
 abbrev pub SHREQ : ℕ
 SHREQ = 54
 
-abbrev pub O_P_E_N_Q_A_S_M_KW : ℕ
-O_P_E_N_Q_A_S_M_KW = 55
+abbrev pub O-P-E-N-Q-A-S-M-KW : ℕ
+O-P-E-N-Q-A-S-M-KW = 55
 
-abbrev pub INCLUDE_KW : ℕ
-INCLUDE_KW = 56
+abbrev pub INCLUDE-KW : ℕ
+INCLUDE-KW = 56
 
-abbrev pub PRAGMA_KW : ℕ
-PRAGMA_KW = 57
+abbrev pub PRAGMA-KW : ℕ
+PRAGMA-KW = 57
 
-abbrev pub DEF_KW : ℕ
-DEF_KW = 58
+abbrev pub DEF-KW : ℕ
+DEF-KW = 58
 
-abbrev pub DEFCALGRAMMAR_KW : ℕ
-DEFCALGRAMMAR_KW = 59
+abbrev pub DEFCALGRAMMAR-KW : ℕ
+DEFCALGRAMMAR-KW = 59
 
-abbrev pub CAL_KW : ℕ
-CAL_KW = 60
+abbrev pub CAL-KW : ℕ
+CAL-KW = 60
 
-abbrev pub DEFCAL_KW : ℕ
-DEFCAL_KW = 61
+abbrev pub DEFCAL-KW : ℕ
+DEFCAL-KW = 61
 
-abbrev pub GATE_KW : ℕ
-GATE_KW = 62
+abbrev pub GATE-KW : ℕ
+GATE-KW = 62
 
-abbrev pub DELAY_KW : ℕ
-DELAY_KW = 63
+abbrev pub DELAY-KW : ℕ
+DELAY-KW = 63
 
-abbrev pub RESET_KW : ℕ
-RESET_KW = 64
+abbrev pub RESET-KW : ℕ
+RESET-KW = 64
 
-abbrev pub MEASURE_KW : ℕ
-MEASURE_KW = 65
+abbrev pub MEASURE-KW : ℕ
+MEASURE-KW = 65
 
-abbrev pub LET_KW : ℕ
-LET_KW = 66
+abbrev pub LET-KW : ℕ
+LET-KW = 66
 
-abbrev pub BOX_KW : ℕ
-BOX_KW = 67
+abbrev pub BOX-KW : ℕ
+BOX-KW = 67
 
-abbrev pub EXTERN_KW : ℕ
-EXTERN_KW = 68
+abbrev pub EXTERN-KW : ℕ
+EXTERN-KW = 68
 
-abbrev pub CONST_KW : ℕ
-CONST_KW = 69
+abbrev pub CONST-KW : ℕ
+CONST-KW = 69
 
-abbrev pub BARRIER_KW : ℕ
-BARRIER_KW = 70
+abbrev pub BARRIER-KW : ℕ
+BARRIER-KW = 70
 
-abbrev pub GPHASE_KW : ℕ
-GPHASE_KW = 71
+abbrev pub GPHASE-KW : ℕ
+GPHASE-KW = 71
 
-abbrev pub IF_KW : ℕ
-IF_KW = 72
+abbrev pub IF-KW : ℕ
+IF-KW = 72
 
-abbrev pub ELSE_KW : ℕ
-ELSE_KW = 73
+abbrev pub ELSE-KW : ℕ
+ELSE-KW = 73
 
-abbrev pub FOR_KW : ℕ
-FOR_KW = 74
+abbrev pub FOR-KW : ℕ
+FOR-KW = 74
 
-abbrev pub IN_KW : ℕ
-IN_KW = 75
+abbrev pub IN-KW : ℕ
+IN-KW = 75
 
-abbrev pub WHILE_KW : ℕ
-WHILE_KW = 76
+abbrev pub WHILE-KW : ℕ
+WHILE-KW = 76
 
-abbrev pub CONTINUE_KW : ℕ
-CONTINUE_KW = 77
+abbrev pub CONTINUE-KW : ℕ
+CONTINUE-KW = 77
 
-abbrev pub RETURN_KW : ℕ
-RETURN_KW = 78
+abbrev pub RETURN-KW : ℕ
+RETURN-KW = 78
 
-abbrev pub BREAK_KW : ℕ
-BREAK_KW = 79
+abbrev pub BREAK-KW : ℕ
+BREAK-KW = 79
 
-abbrev pub END_KW : ℕ
-END_KW = 80
+abbrev pub END-KW : ℕ
+END-KW = 80
 
-abbrev pub SWITCH_KW : ℕ
-SWITCH_KW = 81
+abbrev pub SWITCH-KW : ℕ
+SWITCH-KW = 81
 
-abbrev pub CASE_KW : ℕ
-CASE_KW = 82
+abbrev pub CASE-KW : ℕ
+CASE-KW = 82
 
-abbrev pub DEFAULT_KW : ℕ
-DEFAULT_KW = 83
+abbrev pub DEFAULT-KW : ℕ
+DEFAULT-KW = 83
 
-abbrev pub INPUT_KW : ℕ
-INPUT_KW = 84
+abbrev pub INPUT-KW : ℕ
+INPUT-KW = 84
 
-abbrev pub OUTPUT_KW : ℕ
-OUTPUT_KW = 85
+abbrev pub OUTPUT-KW : ℕ
+OUTPUT-KW = 85
 
-abbrev pub READONLY_KW : ℕ
-READONLY_KW = 86
+abbrev pub READONLY-KW : ℕ
+READONLY-KW = 86
 
-abbrev pub MUTABLE_KW : ℕ
-MUTABLE_KW = 87
+abbrev pub MUTABLE-KW : ℕ
+MUTABLE-KW = 87
 
-abbrev pub QREG_KW : ℕ
-QREG_KW = 88
+abbrev pub QREG-KW : ℕ
+QREG-KW = 88
 
-abbrev pub CREG_KW : ℕ
-CREG_KW = 89
+abbrev pub CREG-KW : ℕ
+CREG-KW = 89
 
-abbrev pub QUBIT_KW : ℕ
-QUBIT_KW = 90
+abbrev pub QUBIT-KW : ℕ
+QUBIT-KW = 90
 
-abbrev pub VOID_KW : ℕ
-VOID_KW = 91
+abbrev pub VOID-KW : ℕ
+VOID-KW = 91
 
-abbrev pub ARRAY_KW : ℕ
-ARRAY_KW = 92
+abbrev pub ARRAY-KW : ℕ
+ARRAY-KW = 92
 
-abbrev pub CTRL_KW : ℕ
-CTRL_KW = 93
+abbrev pub CTRL-KW : ℕ
+CTRL-KW = 93
 
-abbrev pub NEGCTRL_KW : ℕ
-NEGCTRL_KW = 94
+abbrev pub NEGCTRL-KW : ℕ
+NEGCTRL-KW = 94
 
-abbrev pub INV_KW : ℕ
-INV_KW = 95
+abbrev pub INV-KW : ℕ
+INV-KW = 95
 
-abbrev pub POW_KW : ℕ
-POW_KW = 96
+abbrev pub POW-KW : ℕ
+POW-KW = 96
 
-abbrev pub FALSE_KW : ℕ
-FALSE_KW = 97
+abbrev pub FALSE-KW : ℕ
+FALSE-KW = 97
 
-abbrev pub TRUE_KW : ℕ
-TRUE_KW = 98
+abbrev pub TRUE-KW : ℕ
+TRUE-KW = 98
 
-abbrev pub INT_NUMBER : ℕ
-INT_NUMBER = 99
+abbrev pub INT-NUMBER : ℕ
+INT-NUMBER = 99
 
-abbrev pub FLOAT_NUMBER : ℕ
-FLOAT_NUMBER = 100
+abbrev pub FLOAT-NUMBER : ℕ
+FLOAT-NUMBER = 100
 
 abbrev pub CHAR : ℕ
 CHAR = 101
@@ -314,35 +314,35 @@ BYTE = 102
 abbrev pub STRING : ℕ
 STRING = 103
 
-abbrev pub BIT_STRING : ℕ
-BIT_STRING = 104
+abbrev pub BIT-STRING : ℕ
+BIT-STRING = 104
 
-abbrev pub FLOAT_TY : ℕ
-FLOAT_TY = 105
+abbrev pub FLOAT-TY : ℕ
+FLOAT-TY = 105
 
-abbrev pub INT_TY : ℕ
-INT_TY = 106
+abbrev pub INT-TY : ℕ
+INT-TY = 106
 
-abbrev pub UINT_TY : ℕ
-UINT_TY = 107
+abbrev pub UINT-TY : ℕ
+UINT-TY = 107
 
-abbrev pub COMPLEX_TY : ℕ
-COMPLEX_TY = 108
+abbrev pub COMPLEX-TY : ℕ
+COMPLEX-TY = 108
 
-abbrev pub BOOL_TY : ℕ
-BOOL_TY = 109
+abbrev pub BOOL-TY : ℕ
+BOOL-TY = 109
 
-abbrev pub BIT_TY : ℕ
-BIT_TY = 110
+abbrev pub BIT-TY : ℕ
+BIT-TY = 110
 
-abbrev pub DURATION_TY : ℕ
-DURATION_TY = 111
+abbrev pub DURATION-TY : ℕ
+DURATION-TY = 111
 
-abbrev pub STRETCH_TY : ℕ
-STRETCH_TY = 112
+abbrev pub STRETCH-TY : ℕ
+STRETCH-TY = 112
 
-abbrev pub ANGLE_TY : ℕ
-ANGLE_TY = 113
+abbrev pub ANGLE-TY : ℕ
+ANGLE-TY = 113
 
 abbrev pub ERROR : ℕ
 ERROR = 114
@@ -365,23 +365,23 @@ PRAGMA = 119
 abbrev pub ANNOTATION : ℕ
 ANNOTATION = 120
 
-abbrev pub SOURCE_FILE : ℕ
-SOURCE_FILE = 121
+abbrev pub SOURCE-FILE : ℕ
+SOURCE-FILE = 121
 
 abbrev pub GATE : ℕ
 GATE = 122
 
-abbrev pub DEF_CAL : ℕ
-DEF_CAL = 123
+abbrev pub DEF-CAL : ℕ
+DEF-CAL = 123
 
-abbrev pub DELAY_STMT : ℕ
-DELAY_STMT = 124
+abbrev pub DELAY-STMT : ℕ
+DELAY-STMT = 124
 
 abbrev pub CAL : ℕ
 CAL = 125
 
-abbrev pub DEF_CAL_GRAMMAR : ℕ
-DEF_CAL_GRAMMAR = 126
+abbrev pub DEF-CAL-GRAMMAR : ℕ
+DEF-CAL-GRAMMAR = 126
 
 abbrev pub MEASURE : ℕ
 MEASURE = 127
@@ -398,92 +398,92 @@ RESET = 130
 abbrev pub CONST : ℕ
 CONST = 131
 
-abbrev pub PRAGMA_STATEMENT : ℕ
-PRAGMA_STATEMENT = 132
+abbrev pub PRAGMA-STATEMENT : ℕ
+PRAGMA-STATEMENT = 132
 
-abbrev pub ANNOTATION_STATEMENT : ℕ
-ANNOTATION_STATEMENT = 133
+abbrev pub ANNOTATION-STATEMENT : ℕ
+ANNOTATION-STATEMENT = 133
 
-abbrev pub TIMING_LITERAL : ℕ
-TIMING_LITERAL = 134
+abbrev pub TIMING-LITERAL : ℕ
+TIMING-LITERAL = 134
 
-abbrev pub TUPLE_EXPR : ℕ
-TUPLE_EXPR = 135
+abbrev pub TUPLE-EXPR : ℕ
+TUPLE-EXPR = 135
 
-abbrev pub ARRAY_EXPR : ℕ
-ARRAY_EXPR = 136
+abbrev pub ARRAY-EXPR : ℕ
+ARRAY-EXPR = 136
 
-abbrev pub PAREN_EXPR : ℕ
-PAREN_EXPR = 137
+abbrev pub PAREN-EXPR : ℕ
+PAREN-EXPR = 137
 
-abbrev pub IF_STMT : ℕ
-IF_STMT = 138
+abbrev pub IF-STMT : ℕ
+IF-STMT = 138
 
-abbrev pub WHILE_STMT : ℕ
-WHILE_STMT = 139
+abbrev pub WHILE-STMT : ℕ
+WHILE-STMT = 139
 
-abbrev pub FOR_STMT : ℕ
-FOR_STMT = 140
+abbrev pub FOR-STMT : ℕ
+FOR-STMT = 140
 
-abbrev pub FOR_ITERABLE : ℕ
-FOR_ITERABLE = 141
+abbrev pub FOR-ITERABLE : ℕ
+FOR-ITERABLE = 141
 
-abbrev pub END_STMT : ℕ
-END_STMT = 142
+abbrev pub END-STMT : ℕ
+END-STMT = 142
 
-abbrev pub CONTINUE_STMT : ℕ
-CONTINUE_STMT = 143
+abbrev pub CONTINUE-STMT : ℕ
+CONTINUE-STMT = 143
 
-abbrev pub BREAK_STMT : ℕ
-BREAK_STMT = 144
+abbrev pub BREAK-STMT : ℕ
+BREAK-STMT = 144
 
-abbrev pub BLOCK_EXPR : ℕ
-BLOCK_EXPR = 145
+abbrev pub BLOCK-EXPR : ℕ
+BLOCK-EXPR = 145
 
-abbrev pub STMT_LIST : ℕ
-STMT_LIST = 146
+abbrev pub STMT-LIST : ℕ
+STMT-LIST = 146
 
-abbrev pub RETURN_EXPR : ℕ
-RETURN_EXPR = 147
+abbrev pub RETURN-EXPR : ℕ
+RETURN-EXPR = 147
 
-abbrev pub LET_STMT : ℕ
-LET_STMT = 148
+abbrev pub LET-STMT : ℕ
+LET-STMT = 148
 
-abbrev pub BOX_EXPR : ℕ
-BOX_EXPR = 149
+abbrev pub BOX-EXPR : ℕ
+BOX-EXPR = 149
 
-abbrev pub SWITCH_CASE_STMT : ℕ
-SWITCH_CASE_STMT = 150
+abbrev pub SWITCH-CASE-STMT : ℕ
+SWITCH-CASE-STMT = 150
 
-abbrev pub CASE_EXPR : ℕ
-CASE_EXPR = 151
+abbrev pub CASE-EXPR : ℕ
+CASE-EXPR = 151
 
-abbrev pub CALL_EXPR : ℕ
-CALL_EXPR = 152
+abbrev pub CALL-EXPR : ℕ
+CALL-EXPR = 152
 
-abbrev pub GATE_CALL_EXPR : ℕ
-GATE_CALL_EXPR = 153
+abbrev pub GATE-CALL-EXPR : ℕ
+GATE-CALL-EXPR = 153
 
-abbrev pub MODIFIED_GATE_CALL_EXPR : ℕ
-MODIFIED_GATE_CALL_EXPR = 154
+abbrev pub MODIFIED-GATE-CALL-EXPR : ℕ
+MODIFIED-GATE-CALL-EXPR = 154
 
-abbrev pub G_PHASE_CALL_EXPR : ℕ
-G_PHASE_CALL_EXPR = 155
+abbrev pub G-PHASE-CALL-EXPR : ℕ
+G-PHASE-CALL-EXPR = 155
 
-abbrev pub CAST_EXPRESSION : ℕ
-CAST_EXPRESSION = 156
+abbrev pub CAST-EXPRESSION : ℕ
+CAST-EXPRESSION = 156
 
-abbrev pub INDEX_EXPR : ℕ
-INDEX_EXPR = 157
+abbrev pub INDEX-EXPR : ℕ
+INDEX-EXPR = 157
 
-abbrev pub PREFIX_EXPR : ℕ
-PREFIX_EXPR = 158
+abbrev pub PREFIX-EXPR : ℕ
+PREFIX-EXPR = 158
 
-abbrev pub RANGE_EXPR : ℕ
-RANGE_EXPR = 159
+abbrev pub RANGE-EXPR : ℕ
+RANGE-EXPR = 159
 
-abbrev pub BIN_EXPR : ℕ
-BIN_EXPR = 160
+abbrev pub BIN-EXPR : ℕ
+BIN-EXPR = 160
 
 abbrev pub LITERAL : ℕ
 LITERAL = 161
@@ -491,38 +491,38 @@ LITERAL = 161
 abbrev pub NAME : ℕ
 NAME = 162
 
-abbrev pub EXPR_STMT : ℕ
-EXPR_STMT = 163
+abbrev pub EXPR-STMT : ℕ
+EXPR-STMT = 163
 
 abbrev pub TYPE : ℕ
 TYPE = 164
 
-abbrev pub PARAM_LIST : ℕ
-PARAM_LIST = 165
+abbrev pub PARAM-LIST : ℕ
+PARAM-LIST = 165
 
-abbrev pub TYPED_PARAM_LIST : ℕ
-TYPED_PARAM_LIST = 166
+abbrev pub TYPED-PARAM-LIST : ℕ
+TYPED-PARAM-LIST = 166
 
-abbrev pub QUBIT_LIST : ℕ
-QUBIT_LIST = 167
+abbrev pub QUBIT-LIST : ℕ
+QUBIT-LIST = 167
 
-abbrev pub FILE_PATH : ℕ
-FILE_PATH = 168
+abbrev pub FILE-PATH : ℕ
+FILE-PATH = 168
 
 abbrev pub PARAM : ℕ
 PARAM = 169
 
-abbrev pub TYPED_PARAM : ℕ
-TYPED_PARAM = 170
+abbrev pub TYPED-PARAM : ℕ
+TYPED-PARAM = 170
 
-abbrev pub ARG_LIST : ℕ
-ARG_LIST = 171
+abbrev pub ARG-LIST : ℕ
+ARG-LIST = 171
 
 abbrev pub VERSION : ℕ
 VERSION = 172
 
-abbrev pub VERSION_STRING : ℕ
-VERSION_STRING = 173
+abbrev pub VERSION-STRING : ℕ
+VERSION-STRING = 173
 
 abbrev pub INCLUDE : ℕ
 INCLUDE = 174
@@ -533,77 +533,77 @@ DECLARATION = 175
 abbrev pub DESIGNATOR : ℕ
 DESIGNATOR = 176
 
-abbrev pub SCALAR_TYPE : ℕ
-SCALAR_TYPE = 177
+abbrev pub SCALAR-TYPE : ℕ
+SCALAR-TYPE = 177
 
-abbrev pub ARRAY_TYPE : ℕ
-ARRAY_TYPE = 178
+abbrev pub ARRAY-TYPE : ℕ
+ARRAY-TYPE = 178
 
-abbrev pub QUBIT_TYPE : ℕ
-QUBIT_TYPE = 179
+abbrev pub QUBIT-TYPE : ℕ
+QUBIT-TYPE = 179
 
-abbrev pub EXPRESSION_LIST : ℕ
-EXPRESSION_LIST = 180
+abbrev pub EXPRESSION-LIST : ℕ
+EXPRESSION-LIST = 180
 
-abbrev pub RETURN_SIGNATURE : ℕ
-RETURN_SIGNATURE = 181
+abbrev pub RETURN-SIGNATURE : ℕ
+RETURN-SIGNATURE = 181
 
-abbrev pub SET_EXPRESSION : ℕ
-SET_EXPRESSION = 182
+abbrev pub SET-EXPRESSION : ℕ
+SET-EXPRESSION = 182
 
-abbrev pub ALIAS_DECLARATION_STATEMENT : ℕ
-ALIAS_DECLARATION_STATEMENT = 183
+abbrev pub ALIAS-DECLARATION-STATEMENT : ℕ
+ALIAS-DECLARATION-STATEMENT = 183
 
-abbrev pub INDEX_OPERATOR : ℕ
-INDEX_OPERATOR = 184
+abbrev pub INDEX-OPERATOR : ℕ
+INDEX-OPERATOR = 184
 
-abbrev pub INDEX_KIND : ℕ
-INDEX_KIND = 185
+abbrev pub INDEX-KIND : ℕ
+INDEX-KIND = 185
 
-abbrev pub INDEXED_IDENTIFIER : ℕ
-INDEXED_IDENTIFIER = 186
+abbrev pub INDEXED-IDENTIFIER : ℕ
+INDEXED-IDENTIFIER = 186
 
 abbrev pub IDENTIFIER : ℕ
 IDENTIFIER = 187
 
-abbrev pub ARRAY_LITERAL : ℕ
-ARRAY_LITERAL = 188
+abbrev pub ARRAY-LITERAL : ℕ
+ARRAY-LITERAL = 188
 
-abbrev pub HARDWARE_QUBIT : ℕ
-HARDWARE_QUBIT = 189
+abbrev pub HARDWARE-QUBIT : ℕ
+HARDWARE-QUBIT = 189
 
-abbrev pub CLASSICAL_DECLARATION_STATEMENT : ℕ
-CLASSICAL_DECLARATION_STATEMENT = 190
+abbrev pub CLASSICAL-DECLARATION-STATEMENT : ℕ
+CLASSICAL-DECLARATION-STATEMENT = 190
 
-abbrev pub ASSIGNMENT_STMT : ℕ
-ASSIGNMENT_STMT = 191
+abbrev pub ASSIGNMENT-STMT : ℕ
+ASSIGNMENT-STMT = 191
 
-abbrev pub I_O_DECLARATION_STATEMENT : ℕ
-I_O_DECLARATION_STATEMENT = 192
+abbrev pub I-O-DECLARATION-STATEMENT : ℕ
+I-O-DECLARATION-STATEMENT = 192
 
-abbrev pub GATE_OPERAND : ℕ
-GATE_OPERAND = 193
+abbrev pub GATE-OPERAND : ℕ
+GATE-OPERAND = 193
 
-abbrev pub MEASURE_EXPRESSION : ℕ
-MEASURE_EXPRESSION = 194
+abbrev pub MEASURE-EXPRESSION : ℕ
+MEASURE-EXPRESSION = 194
 
-abbrev pub OLD_STYLE_DECLARATION_STATEMENT : ℕ
-OLD_STYLE_DECLARATION_STATEMENT = 195
+abbrev pub OLD-STYLE-DECLARATION-STATEMENT : ℕ
+OLD-STYLE-DECLARATION-STATEMENT = 195
 
-abbrev pub QUANTUM_DECLARATION_STATEMENT : ℕ
-QUANTUM_DECLARATION_STATEMENT = 196
+abbrev pub QUANTUM-DECLARATION-STATEMENT : ℕ
+QUANTUM-DECLARATION-STATEMENT = 196
 
-abbrev pub INV_MODIFIER : ℕ
-INV_MODIFIER = 197
+abbrev pub INV-MODIFIER : ℕ
+INV-MODIFIER = 197
 
-abbrev pub POW_MODIFIER : ℕ
-POW_MODIFIER = 198
+abbrev pub POW-MODIFIER : ℕ
+POW-MODIFIER = 198
 
-abbrev pub CTRL_MODIFIER : ℕ
-CTRL_MODIFIER = 199
+abbrev pub CTRL-MODIFIER : ℕ
+CTRL-MODIFIER = 199
 
-abbrev pub NEG_CTRL_MODIFIER : ℕ
-NEG_CTRL_MODIFIER = 200
+abbrev pub NEG-CTRL-MODIFIER : ℕ
+NEG-CTRL-MODIFIER = 200
 
 abbrev pub MODIFIER : ℕ
 MODIFIER = 201

@@ -1,0 +1,91 @@
+// The fixed sets: the constants of type TokenSet in the grammar's files, the empty set, and the sets behind the tests of
+// syntax_kind.rt. Written by tools/lists; ./check compares it with the source.
+use crate::token_set::TokenSet;
+ghost use mathlib.Core.Path.{_≡_};
+ghost use Rattle.kinds.specs.Membership.{held, oneOf};
+ghost use Rattle.kinds.specs.Sets.{kindsOf};
+
+// A fixed set's name. ExprFirst is LHS_FIRST too, which the crate gives that second name.
+pub enum Fixed {
+    Empty,
+    PathFirst,
+    LiteralFirst,
+    TimingLiteralFirst,
+    AtomExprFirst,
+    ExprRecoverySet,
+    ExprFirst,
+    PatternFirst,
+    TypeFirst,
+    ParamFirst,
+    ItemRecoverySet,
+    ScalarTypes,
+    ClassicalTypes,
+    QuantumTypes,
+    Types,
+    Permitted,
+}
+
+// A fixed set's words.
+pub fn set_of(set: Fixed) -> TokenSet
+    ensures { λ r. ⌜ held r ≡ oneOf (kindsOf set) ⌝ }
+{
+    match set {
+        Fixed::Empty => TokenSet {
+            words: [0x0, 0x0, 0x0, 0x0],
+        },
+        Fixed::PathFirst => TokenSet {
+            words: [0x40000800, 0x18000000000000, 0x0, 0x0],
+        },
+        Fixed::LiteralFirst => TokenSet {
+            words: [0x0, 0x1fe00000000, 0x0, 0x0],
+        },
+        Fixed::TimingLiteralFirst => TokenSet {
+            words: [0x0, 0x1800000000, 0x0, 0x0],
+        },
+        Fixed::AtomExprFirst => TokenSet {
+            words: [0x40080aa0, 0x1801ffe00055ae, 0x0, 0x0],
+        },
+        Fixed::ExprRecoverySet => TokenSet {
+            words: [0x440, 0x0, 0x0, 0x0],
+        },
+        Fixed::ExprFirst => TokenSet {
+            words: [0x28462c0aa0, 0x1801ffe00055ae, 0x0, 0x0],
+        },
+        Fixed::PatternFirst => TokenSet {
+            words: [0x2046040a20, 0x1801fe00000028, 0x0, 0x0],
+        },
+        Fixed::TypeFirst => TokenSet {
+            words: [0x842240a20, 0x18000000000010, 0x0, 0x0],
+        },
+        Fixed::ParamFirst => TokenSet {
+            words: [0x2846240a20, 0x1801fe00000038, 0x0, 0x0],
+        },
+        Fixed::ItemRecoverySet => TokenSet {
+            words: [0x7d80000000000008, 0x65, 0x0, 0x0],
+        },
+        Fixed::ScalarTypes => TokenSet {
+            words: [0x0, 0x3fe0000000000, 0x0, 0x0],
+        },
+        Fixed::ClassicalTypes => TokenSet {
+            words: [0x0, 0x3fe0010000000, 0x0, 0x0],
+        },
+        Fixed::QuantumTypes => TokenSet {
+            words: [0x0, 0x4000000, 0x2000000000000000, 0x0],
+        },
+        Fixed::Types => TokenSet {
+            words: [0x0, 0x3fe0014000000, 0x2000000000000000, 0x0],
+        },
+        Fixed::Permitted => TokenSet {
+            words: [0xff80002947fffff8, 0x19fffffffffffff, 0x0, 0x0],
+        },
+    }
+}
+
+impl Fixed {
+    // Whether the set has the kind.
+    pub fn has(self, kind: u16) -> bool
+        ensures { λ r. ⌜ r ≡ oneOf (kindsOf self) kind ⌝ }
+    {
+        set_of(self).contains(kind)
+    }
+}
