@@ -1,3 +1,4 @@
 pub mod Kinds
 pub mod Membership
+pub mod Messages
 pub mod Sets
