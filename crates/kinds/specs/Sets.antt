@@ -2,9 +2,9 @@
 -- Assumes nothing: these are definitions.
 use mathlib.Core.List.{List, [], _∷_, _++_}
 use Prim.Native.Nat.{ℕ}
-use Rattle.kinds.specs.Kinds.{SEMICOLON, COMMA, L-PAREN, R-PAREN, L-CURLY, R-CURLY, L-BRACK, R-BRACK, L-ANGLE, R-ANGLE, AT, POUND, TILDE, QUESTION, DOLLAR, AMP, PIPE, PLUS, STAR, SLASH, CARET, PERCENT, UNDERSCORE, DOT, COLON, EQ, BANG, MINUS, O-P-E-N-Q-A-S-M-KW, INCLUDE-KW, PRAGMA-KW, DEF-KW, DEFCALGRAMMAR-KW, CAL-KW, DEFCAL-KW, GATE-KW, DELAY-KW, RESET-KW, MEASURE-KW, LET-KW, BOX-KW, EXTERN-KW, CONST-KW, BARRIER-KW, GPHASE-KW, IF-KW, ELSE-KW, FOR-KW, IN-KW, WHILE-KW, CONTINUE-KW, RETURN-KW, BREAK-KW, END-KW, SWITCH-KW, CASE-KW, DEFAULT-KW, INPUT-KW, OUTPUT-KW, READONLY-KW, MUTABLE-KW, QREG-KW, CREG-KW, QUBIT-KW, VOID-KW, ARRAY-KW, CTRL-KW, NEGCTRL-KW, INV-KW, POW-KW, FALSE-KW, TRUE-KW, INT-NUMBER, FLOAT-NUMBER, CHAR, BYTE, STRING, BIT-STRING, FLOAT-TY, INT-TY, UINT-TY, COMPLEX-TY, BOOL-TY, BIT-TY, DURATION-TY, STRETCH-TY, ANGLE-TY, ERROR, IDENT, HARDWAREIDENT, PRAGMA, ANNOTATION, HARDWARE-QUBIT}
+use Rattle.kinds.specs.Kinds.{SEMICOLON, COMMA, L-PAREN, R-PAREN, L-CURLY, R-CURLY, L-BRACK, R-BRACK, L-ANGLE, R-ANGLE, AT, POUND, TILDE, QUESTION, DOLLAR, AMP, PIPE, PLUS, STAR, SLASH, CARET, PERCENT, UNDERSCORE, DOT, COLON, EQ, BANG, MINUS, O-P-E-N-Q-A-S-M-KW, INCLUDE-KW, PRAGMA-KW, DEF-KW, DEFCALGRAMMAR-KW, CAL-KW, DEFCAL-KW, GATE-KW, DELAY-KW, RESET-KW, MEASURE-KW, LET-KW, BOX-KW, EXTERN-KW, CONST-KW, BARRIER-KW, GPHASE-KW, IF-KW, ELSE-KW, FOR-KW, IN-KW, WHILE-KW, CONTINUE-KW, RETURN-KW, BREAK-KW, END-KW, SWITCH-KW, CASE-KW, DEFAULT-KW, INPUT-KW, OUTPUT-KW, READONLY-KW, MUTABLE-KW, QREG-KW, CREG-KW, QUBIT-KW, VOID-KW, ARRAY-KW, CTRL-KW, NEGCTRL-KW, INV-KW, POW-KW, FALSE-KW, TRUE-KW, INT-NUMBER, FLOAT-NUMBER, CHAR, BYTE, STRING, BIT-STRING, FLOAT-TY, INT-TY, UINT-TY, COMPLEX-TY, BOOL-TY, BIT-TY, DURATION-TY, STRETCH-TY, ANGLE-TY, ERROR, IDENT, HARDWAREIDENT, PRAGMA, ANNOTATION, TIMING-LITERAL, LITERAL, INDEXED-IDENTIFIER, IDENTIFIER, HARDWARE-QUBIT}
 use Rattle.kinds.specs.declared.sets.Fixed.{Fixed}
-use Rattle.kinds.specs.declared.sets.Fixed.the-variants.{Empty, PathFirst, LiteralFirst, TimingLiteralFirst, AtomExprFirst, ExprRecoverySet, ExprFirst, PatternFirst, TypeFirst, ParamFirst, ItemRecoverySet, ScalarTypes, ClassicalTypes, QuantumTypes, Types, Permitted}
+use Rattle.kinds.specs.declared.sets.Fixed.the-variants.{Empty, PathFirst, LiteralFirst, TimingLiteralFirst, AtomExprFirst, ExprRecoverySet, ExprFirst, PatternFirst, TypeFirst, ParamFirst, ItemRecoverySet, ScalarTypes, ClassicalTypes, QuantumTypes, Types, Permitted, QubitFirst, PrefixOps, CastNext, Assignable, Unindexed, ArrayBases, NoIntegers}
 
 -- token_set.rs
 abbrev pub EMPTY : List ℕ
@@ -88,6 +88,34 @@ PERMITTED =
     ∷ STRING ∷ BIT-STRING ∷ FLOAT-TY ∷ INT-TY ∷ UINT-TY ∷ COMPLEX-TY ∷ BOOL-TY ∷ BIT-TY ∷ DURATION-TY ∷ STRETCH-TY
     ∷ ANGLE-TY ∷ ERROR ∷ IDENT ∷ HARDWAREIDENT ∷ PRAGMA ∷ ANNOTATION ∷ []
 
+-- grammar/expressions.rs, call_expr
+abbrev pub QUBIT-FIRST : List ℕ
+QUBIT-FIRST = IDENT ∷ HARDWAREIDENT ∷ []
+
+-- grammar/expressions.rs, lhs
+abbrev pub PREFIX-OPS : List ℕ
+PREFIX-OPS = TILDE ∷ BANG ∷ MINUS ∷ []
+
+-- grammar/expressions.rs, expr_bp
+abbrev pub CAST-NEXT : List ℕ
+CAST-NEXT = L-PAREN ∷ L-BRACK ∷ []
+
+-- grammar/expressions.rs, expr_bp
+abbrev pub ASSIGNABLE : List ℕ
+ASSIGNABLE = IDENTIFIER ∷ INDEXED-IDENTIFIER ∷ []
+
+-- grammar/expressions.rs, postfix_expr
+abbrev pub UNINDEXED : List ℕ
+UNINDEXED = LITERAL ∷ TIMING-LITERAL ∷ HARDWARE-QUBIT ∷ []
+
+-- grammar/expressions.rs, array_type_spec
+abbrev pub ARRAY-BASES : List ℕ
+ARRAY-BASES = INT-TY ∷ UINT-TY ∷ FLOAT-TY ∷ COMPLEX-TY ∷ ANGLE-TY ∷ BOOL-TY ∷ DURATION-TY ∷ []
+
+-- grammar/expressions.rs, designator
+abbrev pub NO-INTEGERS : List ℕ
+NO-INTEGERS = FLOAT-NUMBER ∷ BYTE ∷ CHAR ∷ STRING ∷ BIT-STRING ∷ []
+
 -- the kinds of a fixed set
 abbrev pub kindsOf : Fixed → List ℕ
 kindsOf Empty = EMPTY
@@ -106,3 +134,10 @@ kindsOf ClassicalTypes = CLASSICAL-TYPES
 kindsOf QuantumTypes = QUANTUM-TYPES
 kindsOf Types = TYPES
 kindsOf Permitted = PERMITTED
+kindsOf QubitFirst = QUBIT-FIRST
+kindsOf PrefixOps = PREFIX-OPS
+kindsOf CastNext = CAST-NEXT
+kindsOf Assignable = ASSIGNABLE
+kindsOf Unindexed = UNINDEXED
+kindsOf ArrayBases = ARRAY-BASES
+kindsOf NoIntegers = NO-INTEGERS

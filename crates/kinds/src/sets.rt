@@ -1,5 +1,5 @@
-// The fixed sets: the constants of type TokenSet in the grammar's files, the empty set, and the sets behind the tests of
-// syntax_kind.rt. Written by tools/lists; ./check compares it with the source.
+// The fixed sets: the constants of type TokenSet in the grammar's files, the empty set, the sets behind the tests of
+// syntax_kind.rt, and the kinds that a function lists in a test of its own. Written by tools/lists; ./check compares it with the source.
 use crate::token_set::TokenSet;
 ghost use mathlib.Core.Path.{_≡_};
 ghost use Rattle.kinds.specs.Membership.{held, oneOf};
@@ -23,6 +23,13 @@ pub enum Fixed {
     QuantumTypes,
     Types,
     Permitted,
+    QubitFirst,
+    PrefixOps,
+    CastNext,
+    Assignable,
+    Unindexed,
+    ArrayBases,
+    NoIntegers,
 }
 
 // A fixed set's words.
@@ -77,6 +84,27 @@ pub fn set_of(set: Fixed) -> TokenSet
         },
         Fixed::Permitted => TokenSet {
             words: [0xff80002947fffff8, 0x19fffffffffffff, 0x0, 0x0],
+        },
+        Fixed::QubitFirst => TokenSet {
+            words: [0x0, 0x18000000000000, 0x0, 0x0],
+        },
+        Fixed::PrefixOps => TokenSet {
+            words: [0x2800008000, 0x0, 0x0, 0x0],
+        },
+        Fixed::CastNext => TokenSet {
+            words: [0x220, 0x0, 0x0, 0x0],
+        },
+        Fixed::Assignable => TokenSet {
+            words: [0x0, 0x0, 0xc00000000000000, 0x0],
+        },
+        Fixed::Unindexed => TokenSet {
+            words: [0x0, 0x0, 0x2000000200000040, 0x0],
+        },
+        Fixed::ArrayBases => TokenSet {
+            words: [0x0, 0x2be0000000000, 0x0, 0x0],
+        },
+        Fixed::NoIntegers => TokenSet {
+            words: [0x0, 0x1f000000000, 0x0, 0x0],
         },
     }
 }

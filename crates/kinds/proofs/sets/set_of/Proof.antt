@@ -3,7 +3,7 @@
 use borrow.Author.Needs.{needs}
 use mathlib.Core.List.{[], _∷_}
 use Rattle.kinds.specs.Membership.{bit, oneOf}
-use Rattle.kinds.specs.Sets.{ATOM-EXPR-FIRST, CLASSICAL-TYPES, EMPTY, EXPR-FIRST, EXPR-RECOVERY-SET, ITEM-RECOVERY-SET, LITERAL-FIRST, PARAM-FIRST, PATH-FIRST, PATTERN-FIRST, PERMITTED, QUANTUM-TYPES, SCALAR-TYPES, TIMING-LITERAL-FIRST, TYPE-FIRST, TYPES}
+use Rattle.kinds.specs.Sets.{ARRAY-BASES, ASSIGNABLE, ATOM-EXPR-FIRST, CAST-NEXT, CLASSICAL-TYPES, EMPTY, EXPR-FIRST, EXPR-RECOVERY-SET, ITEM-RECOVERY-SET, LITERAL-FIRST, NO-INTEGERS, PARAM-FIRST, PATH-FIRST, PATTERN-FIRST, PERMITTED, PREFIX-OPS, QUANTUM-TYPES, QUBIT-FIRST, SCALAR-TYPES, TIMING-LITERAL-FIRST, TYPE-FIRST, TYPES, UNINDEXED}
 use Rattle.kinds.proofs.Laws.{exactly, agree, below}
 use Rattle.kinds.proofs.sets.set_of.Statement.{statement}
 use Rattle.kinds.proofs.sets.set_of.Tie as tie
@@ -55,6 +55,27 @@ enum-told-15 c = search needs
 
 enum-told-16 : tie.Need-enum-told-16
 enum-told-16 c = search needs
+
+enum-told-17 : tie.Need-enum-told-17
+enum-told-17 c = search needs
+
+enum-told-18 : tie.Need-enum-told-18
+enum-told-18 c = search needs
+
+enum-told-19 : tie.Need-enum-told-19
+enum-told-19 c = search needs
+
+enum-told-20 : tie.Need-enum-told-20
+enum-told-20 c = search needs
+
+enum-told-21 : tie.Need-enum-told-21
+enum-told-21 c = search needs
+
+enum-told-22 : tie.Need-enum-told-22
+enum-told-22 c = search needs
+
+enum-told-23 : tie.Need-enum-told-23
+enum-told-23 c = search needs
 
 returns : tie.Need-returns
 unfolding bit oneOf agree below
@@ -120,6 +141,34 @@ returns-16 : tie.Need-returns-16
 unfolding bit oneOf agree below
 returns-16 c = rw (c .enum-told16 .given .1) (exactly (0xff80002947fffff8 ∷ 0x19fffffffffffff ∷ 0x0 ∷ 0x0 ∷ []) PERMITTED tt)
 
+returns-17 : tie.Need-returns-17
+unfolding bit oneOf agree below
+returns-17 c = rw (c .enum-told17 .given .1) (exactly (0x0 ∷ 0x18000000000000 ∷ 0x0 ∷ 0x0 ∷ []) QUBIT-FIRST tt)
+
+returns-18 : tie.Need-returns-18
+unfolding bit oneOf agree below
+returns-18 c = rw (c .enum-told18 .given .1) (exactly (0x2800008000 ∷ 0x0 ∷ 0x0 ∷ 0x0 ∷ []) PREFIX-OPS tt)
+
+returns-19 : tie.Need-returns-19
+unfolding bit oneOf agree below
+returns-19 c = rw (c .enum-told19 .given .1) (exactly (0x220 ∷ 0x0 ∷ 0x0 ∷ 0x0 ∷ []) CAST-NEXT tt)
+
+returns-20 : tie.Need-returns-20
+unfolding bit oneOf agree below
+returns-20 c = rw (c .enum-told20 .given .1) (exactly (0x0 ∷ 0x0 ∷ 0xc00000000000000 ∷ 0x0 ∷ []) ASSIGNABLE tt)
+
+returns-21 : tie.Need-returns-21
+unfolding bit oneOf agree below
+returns-21 c = rw (c .enum-told21 .given .1) (exactly (0x0 ∷ 0x0 ∷ 0x2000000200000040 ∷ 0x0 ∷ []) UNINDEXED tt)
+
+returns-22 : tie.Need-returns-22
+unfolding bit oneOf agree below
+returns-22 c = rw (c .enum-told22 .given .1) (exactly (0x0 ∷ 0x2be0000000000 ∷ 0x0 ∷ 0x0 ∷ []) ARRAY-BASES tt)
+
+returns-23 : tie.Need-returns-23
+unfolding bit oneOf agree below
+returns-23 c = rw (c .enum-told23 .given .1) (exactly (0x0 ∷ 0x1f000000000 ∷ 0x0 ∷ 0x0 ∷ []) NO-INTEGERS tt)
+
 pub set-of-spec : {M : Type 1} → statement M
 set-of-spec =
     tie.close
@@ -140,6 +189,13 @@ set-of-spec =
     enum-told-14
     enum-told-15
     enum-told-16
+    enum-told-17
+    enum-told-18
+    enum-told-19
+    enum-told-20
+    enum-told-21
+    enum-told-22
+    enum-told-23
     returns
     returns-2
     returns-3
@@ -155,4 +211,11 @@ set-of-spec =
     returns-13
     returns-14
     returns-15
-    returns-16)
+    returns-16
+    returns-17
+    returns-18
+    returns-19
+    returns-20
+    returns-21
+    returns-22
+    returns-23)
