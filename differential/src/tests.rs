@@ -1,0 +1,281 @@
+//! The oracle's tests: it answers what document 01 says, and the stand-ins do what the crates do that they stand for.
+
+use answer::{kinds, permitted, read_steps, Bounds, End, Entry, Ev, Run, Step, CRATE, LOOKUPS};
+use differential::case::Case;
+use differential::text::{kind, tokens, tree};
+use std::panic::{catch_unwind, AssertUnwindSafe};
+
+use Entry::{Expr, Item, Source};
+
+/// Runs every test; true where all pass.
+pub fn run() -> bool {
+    let tests: &[(&str, fn())] = &[
+        ("the stand-in for limit", limit_stands_in),
+        ("the stand-in for drop_bomb", drop_bomb_stands_in),
+        ("the lists in docs", lists_are_the_crates),
+        ("P1 and P2", p1_p2),
+        ("P3 and P4", p3_p4),
+        ("P5", p5),
+        ("P6", p6),
+        ("P8, P10 and P11", p8_p10_p11),
+        ("the listing", listing),
+        ("minus signs", minus_signs),
+        ("operators", operators),
+        ("glued operators", glued),
+        ("the crate's public call", public_call),
+        ("panics", panics),
+        ("the port's 10,000 lookups", port_limit),
+        ("the crate's 15,000,000 lookups", crate_limit),
+        ("lists that process cannot take", bad_lists),
+    ];
+    let mut failed = 0;
+    for (name, test) in tests {
+        if catch_unwind(AssertUnwindSafe(test)).is_err() {
+            println!("differential: the test of {name} failed");
+            failed += 1;
+        }
+    }
+    println!("differential: {} tests passed, {failed} failed", tests.len() - failed);
+    failed == 0
+}
+
+fn case(entry: Entry, text: &str) -> Case {
+    Case::of(entry, &tokens(text).expect("tokens"))
+}
+
+fn plain(case: &Case, bounds: Bounds) -> Run {
+    oq3_parser::entries::parse(case.entry, &case.kinds, &case.joints, bounds)
+}
+
+fn watched(case: &Case, room: usize) -> Run {
+    oq3_watched::entries::parse(case.entry, &case.kinds, &case.joints, Bounds { room, depth: 64, ..LOOKUPS })
+}
+
+fn mode1(case: &Case) -> Run {
+    oq3_mode1::entries::parse(case.entry, &case.kinds, &case.joints, LOOKUPS)
+}
+
+fn run_of(entry: Entry, text: &str) -> Run {
+    plain(&case(entry, text), LOOKUPS)
+}
+
+fn tree_of(run: &Run) -> String {
+    assert_eq!(run.end, End::Done);
+    tree(&read_steps(&run.steps))
+}
+
+fn words(events: &[Ev]) -> Vec<u32> {
+    events.iter().flat_map(|e| e.words()).collect()
+}
+
+fn limit_stands_in() {
+    limit::begin(limit::CRATE);
+    let bound = limit::Limit::new(5);
+    assert!(bound.check(5).is_ok() && bound.check(6).is_err());
+    limit::begin(3);
+    assert!(bound.check(3).is_ok() && !limit::stuck() && bound.check(4).is_err() && limit::stuck());
+    assert_eq!((limit::lookups(), limit::most()), (1, 4));
+}
+
+fn drop_bomb_stands_in() {
+    let dropped = answer::caught(|| drop(drop_bomb::DropBomb::new("dropped")));
+    assert_eq!(dropped.unwrap_err().1.unwrap().said, "dropped");
+    let defused = answer::caught(|| drop_bomb::DropBomb::new("dropped").defuse());
+    assert!(defused.is_ok());
+    // a bomb that is dropped while its thread panics keeps quiet: a second panic would end the program
+    let unwound = answer::caught(|| {
+        let _bomb = drop_bomb::DropBomb::new("dropped");
+        panic!("first")
+    });
+    assert_eq!(unwound.unwrap_err().1.unwrap().said, "first");
+}
+
+fn lists_are_the_crates() {
+    assert_eq!(kinds().len(), oq3_parser::entries::LAST as usize + 1);
+    for (number, kind) in kinds().iter().enumerate() {
+        assert_eq!(kind.name, oq3_parser::entries::kind_name(number as u16));
+    }
+    assert_eq!(permitted().len(), 92);
+    let rows = answer::messages();
+    assert!(rows.iter().map(|r| r.0).eq(2..=37));
+    for (code, text) in rows {
+        assert_eq!(answer::message(&text), (code, 0));
+    }
+}
+
+fn p1_p2() {
+    let case = case(Item, "break ;");
+    let run = plain(&case, LOOKUPS);
+    let list = [Ev::Start(kind("BREAK_STMT"), 0), Ev::Token(kind("BREAK_KW"), 1), Ev::Token(kind("SEMICOLON"), 1), Ev::Finish];
+    assert_eq!((&run.end, run.tokens, run.events, run.lookups), (&End::Done, 2, 4, 3));
+    assert_eq!(run.words, words(&list));
+    assert_eq!(watched(&case, 4).end, End::Done);
+    let full = watched(&case, 3);
+    assert_eq!((full.end, full.tokens), (End::Room, 2));
+}
+
+fn p3_p4() {
+    let case = case(Item, "");
+    let run = plain(&case, LOOKUPS);
+    assert_eq!((&run.end, run.tokens, run.events, run.lookups), (&End::Done, 0, 0, 4));
+    let run = watched(&case, 1);
+    assert_eq!((&run.end, run.peak), (&End::Done, 1));
+    let full = watched(&case, 0);
+    assert_eq!((full.end, full.tokens), (End::Room, 0));
+}
+
+fn p5() {
+    let run = run_of(Item, "}");
+    assert_eq!(tree_of(&run), "(ERROR !32 R_CURLY)");
+    assert_eq!(run.lookups, 4);
+}
+
+fn p6() {
+    let run = run_of(Item, "reset ;");
+    assert_eq!(tree_of(&run), "RESET_KW !34 (ERROR !31 SEMICOLON)");
+    assert_eq!((run.events, run.lookups), (7, 7));
+}
+
+fn resolved(events: &[Ev]) -> Vec<Step> {
+    let file = oq3_parser::entries::process(&words(events)).expect("events").expect("no panic");
+    read_steps(&file)
+}
+
+fn p8_p10_p11() {
+    assert_eq!(resolved(&[Ev::Start(0, 0)]), []);
+    assert_eq!(resolved(&[]), []);
+    let list = [Ev::Start(40, 2), Ev::Start(41, 1), Ev::Start(42, 0), Ev::Finish, Ev::Finish, Ev::Finish];
+    let steps = [Step::Enter(42), Step::Enter(40), Step::Enter(41), Step::Leave, Step::Leave, Step::Leave];
+    assert_eq!(resolved(&list), steps);
+}
+
+fn listing() {
+    use Ev::*;
+    let list = [
+        Start(0, 1),
+        Start(40, 3),
+        Token(50, 1),
+        Finish,
+        Start(41, 0),
+        Token(51, 1),
+        Start(0, 1),
+        Start(40, 0),
+        Token(50, 1),
+        Finish,
+        Finish,
+    ];
+    let steps = [
+        Step::Enter(41),
+        Step::Enter(40),
+        Step::Token(50, 1),
+        Step::Leave,
+        Step::Token(51, 1),
+        Step::Enter(40),
+        Step::Token(50, 1),
+        Step::Leave,
+        Step::Leave,
+    ];
+    assert_eq!(resolved(&list), steps);
+    let file = oq3_parser::entries::process(&words(&list)).unwrap().unwrap();
+    assert_eq!(file.len(), 51);
+}
+
+fn minus_signs() {
+    let with = |n: usize| case(Expr, &format!("{}a", "- ".repeat(n)));
+    // the crate has no depth limit: 63 and 64 are done, and so are 8,191
+    for n in [63, 64, 8191] {
+        let run = plain(&with(n), CRATE);
+        assert_eq!((run.end, run.tokens), (End::Done, n + 1));
+    }
+    let last = watched(&with(63), usize::MAX);
+    assert_eq!((last.end, last.tokens, last.deepest), (End::Done, 64, 64));
+    let over = watched(&with(64), usize::MAX);
+    assert_eq!((over.end, over.tokens), (End::Depth, 64));
+}
+
+const A: &str = "(IDENTIFIER IDENT)";
+
+fn operators() {
+    let and = case(Expr, "a & b == c");
+    assert_eq!(tree_of(&plain(&and, LOOKUPS)), format!("(BIN_EXPR (BIN_EXPR {A} AMP {A}) EQ2/2 {A})"));
+    assert_eq!(tree_of(&mode1(&and)), format!("(BIN_EXPR {A} AMP (BIN_EXPR {A} EQ2/2 {A}))"));
+    let sum = run_of(Expr, "x + y = 3");
+    assert_eq!(tree_of(&sum), format!("(BIN_EXPR {A} PLUS (ASSIGNMENT_STMT {A} EQ (LITERAL INT_NUMBER) !22))"));
+    let set = run_of(Expr, "a = b + c");
+    assert_eq!(tree_of(&set), format!("(BIN_EXPR (ASSIGNMENT_STMT {A} EQ {A} !22) PLUS {A})"));
+}
+
+fn glued() {
+    // `> >` is one operator only with its joint bit, and `..` is read where `...` stands
+    assert_eq!(tree_of(&run_of(Expr, "a >> b")), format!("(BIN_EXPR {A} SHR/2 {A})"));
+    assert_eq!(tree_of(&run_of(Expr, "a > > b")), format!("(BIN_EXPR {A} R_ANGLE (ERROR !21 R_ANGLE))"));
+    assert_eq!(tree_of(&run_of(Expr, "a ... b")), format!("(BIN_EXPR {A} DOT2/2 (ERROR !11 DOT))"));
+    assert_eq!(tree_of(&run_of(Expr, "a >>= b")), format!("(BIN_EXPR {A} SHREQ/3 {A})"));
+}
+
+fn public_call() {
+    let programs = [
+        "",
+        "OPENQASM 3.0; include \"stdgates.inc\"; qubit[2] q; h q[0]; cx q[0], q[1]; bit[2] c = measure q;",
+        "def f(int[32] a) -> bit { if (a == 3) { return 1; } else if (a) { } } for int i in [0:2:8] { x $0; }",
+        "} ; reset ; 3 + ; let a = b ++ c;",
+    ];
+    for text in programs {
+        let case = case(Source, text);
+        let run = plain(&case, LOOKUPS);
+        assert_eq!(run.end, End::Done);
+        assert_eq!(run.steps, oq3_parser::entries::parse_public(&case.kinds, &case.joints));
+    }
+}
+
+/// The panics of docs/PANICS.md: the entry, the tokens, the tokens consumed, the place and the innermost lines of the grammar.
+const PANICS: [(Entry, &str, usize, &str, &str); 2] = [
+    (
+        Item,
+        "delay",
+        1,
+        "src/grammar/expressions.rs:459",
+        "src/grammar/expressions.rs:459 designator, src/grammar/items.rs:419 delay_stmt",
+    ),
+    (
+        Expr,
+        "a [ {",
+        3,
+        "src/parser.rs:188",
+        "src/grammar/expressions.rs:518 set_expression, src/grammar/expressions.rs:527 index_operator",
+    ),
+];
+
+fn panics() {
+    for (entry, text, consumed, place, from) in PANICS {
+        let case = case(entry, text);
+        let run = plain(&case, LOOKUPS);
+        let End::Panic(panic) = &run.end else { panic!("{text}: no panic") };
+        assert_eq!((run.tokens, format!("{}:{}", panic.file, panic.line)), (consumed, place.to_string()));
+        assert_eq!(differential::named(&case).from, from);
+    }
+}
+
+fn port_limit() {
+    // the 10,001st lookup since a token is the first that is not made
+    for (entry, text, consumed) in [(Item, "array", 1), (Item, "array )", 1), (Item, "array }", 1), (Item, "def f ( 3", 3)] {
+        let run = run_of(entry, text);
+        assert_eq!((&run.end, run.tokens, run.most), (&End::Lookups, consumed, 10_000), "{text}");
+    }
+}
+
+fn crate_limit() {
+    let run = plain(&case(Item, "array )"), CRATE);
+    let End::Panic(panic) = run.end else { panic!("no panic") };
+    assert_eq!((panic.file.as_str(), panic.line, panic.said.as_str()), ("src/parser.rs", 75, "the parser seems stuck"));
+    // the check fails for more than 15,000,000, so one lookup more is made
+    assert_eq!(run.most, 15_000_001);
+}
+
+fn bad_lists() {
+    let said = |list: &[Ev]| oq3_parser::entries::process(&words(list)).unwrap().unwrap_err();
+    let past = said(&[Ev::Start(40, 2), Ev::Finish]);
+    assert_eq!((past.file.as_str(), past.line), ("src/event.rs", 118));
+    let token = said(&[Ev::Start(40, 1), Ev::Token(50, 1), Ev::Finish]);
+    assert_eq!((token.file.as_str(), token.line), ("src/event.rs", 126));
+}
