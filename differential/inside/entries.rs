@@ -108,8 +108,10 @@ pub fn parse(entry: Entry, kinds: &[u16], joints: &[u64], bounds: Bounds) -> Run
         peak,
         deepest,
     };
-    if run.end == End::Done {
+    if !limit::stuck() || bounds.lookups != limit::CRATE {
         run.words = words(&events);
+    }
+    if run.end == End::Done {
         match answer::caught(|| steps(&event::process(events))) {
             Ok(file) => run.steps = file,
             Err((_, panic)) => run.end = End::Panic(panic.expect("the hook is set")),

@@ -44,7 +44,7 @@ pub const LOOKUPS: Bounds = Bounds { lookups: 9_999, room: usize::MAX, depth: us
 /// The crate as it is.
 pub const CRATE: Bounds = Bounds { lookups: usize::MAX, room: usize::MAX, depth: usize::MAX };
 
-/// A panic: where it is in the source, what it says, and, where traces are on, the two innermost lines of the grammar on the stack.
+/// A panic: where it is in the source, what it says, and, where traces are on, the lines of the grammar on the stack, innermost first.
 #[derive(Clone, PartialEq, Eq, Debug, Hash, PartialOrd, Ord)]
 pub struct Panic {
     pub file: String,
@@ -72,8 +72,9 @@ pub struct Run {
     pub tokens: usize,
     /// How many events the list held at the run's end, whatever the end was.
     pub events: usize,
-    /// The events as pairs of words, and the step file of the resolved list; both empty where the run was not done.
+    /// The events as pairs of words, as the list stood at the run's end. Empty where the crate's own step limit ended it.
     pub words: Vec<u32>,
+    /// The step file of the resolved list; empty where the run was not done.
     pub steps: Vec<u8>,
     /// The lookups of the whole run.
     pub lookups: u64,
@@ -204,8 +205,9 @@ pub fn kinds() -> &'static [Kind] {
 }
 
 /// The numbers of the permitted kinds.
-pub fn permitted() -> Vec<u16> {
-    (0..kinds().len()).filter(|&n| kinds()[n].permitted).map(|n| n as u16).collect()
+pub fn permitted() -> &'static [u16] {
+    static PERMITTED: OnceLock<Vec<u16>> = OnceLock::new();
+    PERMITTED.get_or_init(|| (0..kinds().len()).filter(|&n| kinds()[n].permitted).map(|n| n as u16).collect())
 }
 
 /// The messages from code 2 on, with their codes.
@@ -305,10 +307,10 @@ extern "C" fn note(context: *mut u8, list: *mut u8) -> i32 {
     let list = unsafe { &mut *(list as *mut Vec<usize>) };
     list.push(unsafe { _Unwind_GetIP(context) });
     // 5 is the code that ends the walk
-    if list.len() < 20 { 0 } else { 5 }
+    if list.len() < 40 { 0 } else { 5 }
 }
 
-/// The two innermost lines of the grammar on the stack, as `FILE:LINE function`. Naming the lines is slow, so it is done once for each
+/// The lines of the grammar on the stack, innermost first, as `FILE:LINE function`. Naming the lines is slow, so it is done once for each
 /// stack of return addresses.
 fn caller() -> String {
     let mut stack: Vec<usize> = Vec::new();
@@ -326,7 +328,6 @@ fn caller() -> String {
             found.push(format!("src/grammar{place} {}", name.rsplit("::").next().unwrap_or(name)));
         }
     }
-    found.truncate(2);
     let found = found.join(", ");
     SEEN.with_borrow_mut(|seen| seen.insert(stack, found.clone()));
     found

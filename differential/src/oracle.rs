@@ -5,6 +5,7 @@ use differential::case::{answer_line, bytes, list, Case};
 use differential::text;
 use std::io::{BufRead, Write};
 
+mod search;
 mod tests;
 
 fn main() {
@@ -14,6 +15,7 @@ fn main() {
     let good = with_stack(|| match words[..] {
         [] => answer_all(),
         ["test"] => tests::run(),
+        ["search", ref words @ ..] => search::run(words),
         _ => {
             eprintln!("usage: oracle < cases; oracle test");
             false

@@ -228,39 +228,49 @@ fn public_call() {
     }
 }
 
-/// The panics of docs/PANICS.md: the entry, the tokens, the tokens consumed, the place and the innermost lines of the grammar.
-const PANICS: [(Entry, &str, usize, &str, &str); 2] = [
-    (
-        Item,
-        "delay",
-        1,
-        "src/grammar/expressions.rs:459",
-        "src/grammar/expressions.rs:459 designator, src/grammar/items.rs:419 delay_stmt",
-    ),
-    (
-        Expr,
-        "a [ {",
-        3,
-        "src/parser.rs:188",
-        "src/grammar/expressions.rs:518 set_expression, src/grammar/expressions.rs:527 index_operator",
-    ),
-];
-
 fn panics() {
-    for (entry, text, consumed, place, from) in PANICS {
+    for (entry, text, consumed, site) in [
+        (
+            Item,
+            "delay",
+            1,
+            "src/grammar/expressions.rs:459 `assertion failed: p.at(T!['['])` from src/grammar/expressions.rs:459 designator, \
+             src/grammar/items.rs:419 delay_stmt",
+        ),
+        (
+            Item,
+            "for {",
+            2,
+            "src/parser.rs:188 `assertion failed: self.eat(kind)` from src/grammar/expressions.rs:518 set_expression, \
+             src/grammar/items.rs:173 for_stmt",
+        ),
+        (
+            Expr,
+            "a [ {",
+            3,
+            "src/parser.rs:188 `assertion failed: self.eat(kind)` from src/grammar/expressions.rs:518 set_expression, \
+             src/grammar/expressions.rs:527 index_operator",
+        ),
+    ] {
         let case = case(entry, text);
         let run = plain(&case, LOOKUPS);
-        let End::Panic(panic) = &run.end else { panic!("{text}: no panic") };
-        assert_eq!((run.tokens, format!("{}:{}", panic.file, panic.line)), (consumed, place.to_string()));
-        assert_eq!(differential::named(&case).from, from);
+        assert!(matches!(run.end, End::Panic(_)), "{text}: no panic");
+        assert_eq!((run.tokens, differential::site(&case).as_str()), (consumed, site));
     }
 }
 
 fn port_limit() {
     // the 10,001st lookup since a token is the first that is not made
-    for (entry, text, consumed) in [(Item, "array", 1), (Item, "array )", 1), (Item, "array }", 1), (Item, "def f ( 3", 3)] {
-        let run = run_of(entry, text);
+    for (text, consumed, looping) in [
+        ("array", 1, "array_type_spec"),
+        ("array )", 1, "array_type_spec"),
+        ("array }", 1, "array_type_spec"),
+        ("def f ( 3", 3, "_param_list_openqasm"),
+    ] {
+        let case = case(Item, text);
+        let run = plain(&case, LOOKUPS);
         assert_eq!((&run.end, run.tokens, run.most), (&End::Lookups, consumed, 10_000), "{text}");
+        assert_eq!(differential::spinning(&case), looping);
     }
 }
 
