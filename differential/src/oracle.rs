@@ -5,6 +5,9 @@ use differential::case::{answer_line, bytes, list, Case};
 use differential::text;
 use std::io::{BufRead, Write};
 
+mod record;
+mod replay;
+mod same;
 mod search;
 mod tests;
 
@@ -15,13 +18,25 @@ fn main() {
     let good = with_stack(|| match words[..] {
         [] => answer_all(),
         ["test"] => tests::run(),
-        ["search", ref words @ ..] => search::run(words),
-        _ => {
-            eprintln!("usage: oracle < cases; oracle test");
-            false
-        }
+        ["same", count, seed] => match (count.parse(), seed.parse()) {
+            (Ok(count), Ok(seed)) => same::run(count, seed),
+            _ => usage(),
+        },
+        ["record", folder] => record::run(std::path::Path::new(folder), answer_line_of),
+        ["search", ref words @ ..] => search::run(words) || usage(),
+        _ => usage(),
     });
     std::process::exit(if good { 0 } else { 1 });
+}
+
+fn usage() -> bool {
+    eprintln!("usage: oracle < LINES");
+    eprintln!("       oracle test");
+    eprintln!("       oracle same COUNT SEED");
+    eprintln!("       oracle record FOLDER");
+    eprintln!("       oracle search short all|reduced|expressions|types LENGTH");
+    eprintln!("       oracle search random COUNT SEED");
+    false
 }
 
 /// Answers the lines of standard input.
@@ -29,12 +44,15 @@ fn answer_all() -> bool {
     let mut out = std::io::BufWriter::new(std::io::stdout());
     for line in std::io::stdin().lock().lines() {
         let Ok(line) = line else { return false };
-        let said = answer_one(&line).unwrap_or_else(|| "bad line".to_string());
-        if writeln!(out, "{said}").is_err() {
+        if writeln!(out, "{}", answer_line_of(&line)).is_err() {
             return false;
         }
     }
     out.flush().is_ok()
+}
+
+fn answer_line_of(line: &str) -> String {
+    answer_one(line).unwrap_or_else(|| "bad line".to_string())
 }
 
 /// The answer to one line, or none where it is no case.
@@ -64,7 +82,7 @@ fn answer_one(line: &str) -> Option<String> {
                 _ => answer_line(&run),
             })
         }
-        _ => None,
+        _ => replay::answer(word, &parts),
     }
 }
 
