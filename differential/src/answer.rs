@@ -333,10 +333,11 @@ fn caller() -> String {
     found
 }
 
-/// Runs `body` on a thread with a stack for the deepest nests that 8,192 tokens can make.
+/// Runs `body` on a thread with a stack for the deepest nests that 8,192 tokens can make; `$ORACLE_STACK` gives it other bytes.
 pub fn with_stack<T: Send>(body: impl FnOnce() -> T + Send) -> T {
+    let size = std::env::var("ORACLE_STACK").ok().and_then(|text| text.parse().ok()).unwrap_or(1 << 30);
     std::thread::scope(|scope| {
-        let thread = std::thread::Builder::new().stack_size(1 << 30).spawn_scoped(scope, body).expect("a thread");
+        let thread = std::thread::Builder::new().stack_size(size).spawn_scoped(scope, body).expect("a thread");
         thread.join().unwrap_or_else(|payload| std::panic::resume_unwind(payload))
     })
 }

@@ -34,7 +34,7 @@ fn usage() -> bool {
     eprintln!("       oracle test");
     eprintln!("       oracle same COUNT SEED");
     eprintln!("       oracle record FOLDER");
-    eprintln!("       oracle search short all|reduced|expressions|types LENGTH");
+    eprintln!("       oracle search short all|rest|reduced|expressions|types LENGTH [ENTRY]");
     eprintln!("       oracle search random COUNT SEED");
     false
 }

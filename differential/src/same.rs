@@ -1,7 +1,7 @@
 //! Holds the builds against each other and against the rules on generated cases, so that what the watched build says of the port's
 //! refusals is what the oracle does.
 
-use answer::{End, Entry, Run, ENTRIES, LOOKUPS};
+use answer::{kinds, End, Entry, Ev, Run, ENTRIES, LOOKUPS};
 use differential::case::{answer_line, numbers, Case};
 use differential::rng::Rng;
 use differential::{generate, lists};
@@ -9,39 +9,89 @@ use differential::{generate, lists};
 /// Compares `count` cases and a quarter as many lists, from a seed, and the shortest lists of tokens; true where nothing differs.
 pub fn run(count: u64, seed: u64) -> bool {
     let mut differing = 0;
-    let mut ends = [0u64; 3];
+    let mut seen = Seen { ends: [0; 3], codes: [false; 38], most: 0, nodes: vec![false; kinds().len()], tokens: vec![false; kinds().len()] };
     let mut rng = Rng::new(seed);
     for length in 0..=1 {
         generate::short(answer::permitted(), length, |kinds, joints| {
             for entry in ENTRIES {
-                differing += !one(&Case::new(entry, kinds.to_vec(), vec![joints]), &mut rng, &mut ends) as u64;
+                differing += !one(&Case::new(entry, kinds.to_vec(), vec![joints]), &mut rng, &mut seen) as u64;
             }
         });
     }
     for _ in 0..count {
         let case = generate::any(&mut rng);
-        differing += !one(&case, &mut rng, &mut ends) as u64;
+        differing += !one(&case, &mut rng, &mut seen) as u64;
     }
     let mut passing = 0u64;
     for _ in 0..count / 4 {
         let words = lists::any(&mut rng, oq3_parser::entries::LAST);
         differing += !list(&words, &mut passing) as u64;
     }
-    let [done, panics, stuck] = ends;
+    let [done, panics, stuck] = seen.ends;
     println!(
         "differential: {} cases from seed {seed} ({done} done, {panics} panics, {stuck} past the lookups) and {} lists ({passing} well formed): {differing} differ",
         done + panics + stuck,
         count / 4
     );
-    differing == 0
+    println!("differential: at most {} lookups since a token in a done run within the depth", seen.most);
+    differing == 0 && seen.all()
+}
+
+/// What the cases have met: how the runs ended, the codes of their errors, the kinds of their nodes and of their tokens.
+struct Seen {
+    ends: [u64; 3],
+    /// the most lookups since a token of a done run that keeps to the depth
+    most: u64,
+    codes: [bool; 38],
+    nodes: Vec<bool>,
+    tokens: Vec<bool>,
+}
+
+/// The kinds of nodes that no line of the grammar makes, and the glued kinds that none consumes.
+const NEVER: &str = "MEASURE CONST STMT_LIST TYPE DECLARATION INDEX_KIND ARRAY_LITERAL GATE_OPERAND OLD_STYLE_DECLARATION_STATEMENT \
+                     MODIFIER DOT3 COLON2 FAT_ARROW";
+
+impl Seen {
+    fn note(&mut self, run: &Run) {
+        for w in run.words.chunks(2) {
+            match Ev::of(w[0], w[1]) {
+                Some(Ev::Start(kind, _)) => self.nodes[kind as usize] = true,
+                Some(Ev::Token(kind, _)) => self.tokens[kind as usize] = true,
+                Some(Ev::Error(code, _)) => self.codes[code as usize] = true,
+                _ => {}
+            }
+        }
+    }
+
+    /// Whether every message, every node and every token was met that can be: if not, the generators have lost a branch.
+    fn all(&self) -> bool {
+        let mut good = true;
+        for code in 1..38 {
+            if !self.codes[code] {
+                println!("differential: no case has met the message of code {code}");
+                good = false;
+            }
+        }
+        let never: Vec<&str> = NEVER.split_whitespace().collect();
+        for (number, kind) in kinds().iter().enumerate() {
+            let (token, node) = (kind.permitted || kind.why.starts_with("glued"), kind.why == "a node" || kind.name == "ERROR");
+            let missing = token && !self.tokens[number] || node && !self.nodes[number];
+            if missing != never.contains(&kind.name) {
+                println!("differential: {} was {}", kind.name, if missing { "never met" } else { "met after all" });
+                good = false;
+            }
+        }
+        good
+    }
 }
 
 /// One case in every build.
-fn one(case: &Case, rng: &mut Rng, ends: &mut [u64; 3]) -> bool {
+fn one(case: &Case, rng: &mut Rng, seen: &mut Seen) -> bool {
     let parse = |build: fn(Entry, &[u16], &[u64], answer::Bounds) -> Run, bounds| build(case.entry, &case.kinds, &case.joints, bounds);
     let plain = parse(oq3_parser::entries::parse, LOOKUPS);
     let watched = parse(oq3_watched::entries::parse, LOOKUPS);
-    ends[match plain.end {
+    seen.note(&plain);
+    seen.ends[match plain.end {
         End::Done => 0,
         End::Panic(_) => 1,
         _ => 2,
@@ -49,6 +99,9 @@ fn one(case: &Case, rng: &mut Rng, ends: &mut [u64; 3]) -> bool {
     let mut faults = Vec::new();
     if (Run { peak: 0, deepest: 0, ..watched.clone() }) != plain {
         faults.push(format!("the watched build says {}", answer_line(&watched)));
+    }
+    if plain.end == End::Done && watched.deepest <= 64 {
+        seen.most = seen.most.max(plain.most);
     }
     if plain.end == End::Done {
         if lists::check(&plain.words) != Ok(plain.events) {

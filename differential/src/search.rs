@@ -4,7 +4,7 @@ use answer::{permitted, End, Entry, ENTRIES, LOOKUPS};
 use differential::case::Case;
 use differential::generate;
 use differential::rng::Rng;
-use differential::text::names;
+use differential::text::{kind, names};
 use std::collections::BTreeMap;
 
 /// What was seen of one site from one entry.
@@ -75,22 +75,25 @@ impl Seen {
     }
 }
 
-/// `short ALPHABET LENGTH` or `random COUNT SEED`.
+/// `short ALPHABET LENGTH [ENTRY]` or `random COUNT SEED`.
 pub fn run(words: &[&str]) -> bool {
     let mut seen = Seen::default();
     match words {
-        ["short", name, length] => {
+        ["short", name, length, entries @ ..] => {
             let alphabet = match *name {
                 "all" => permitted().to_vec(),
+                // without the kinds that lead to a panic by themselves
+                "rest" => permitted().iter().copied().filter(|&k| k != kind("ARRAY_KW") && k != kind("DELAY_KW")).collect(),
                 "reduced" => generate::reduced(),
                 "expressions" => generate::of_expressions(),
                 "types" => generate::of_types(),
                 _ => return false,
             };
             let Ok(length) = length.parse() else { return false };
+            let entries: Vec<Entry> = ENTRIES.into_iter().filter(|e| entries.is_empty() || entries.contains(&e.name())).collect();
             println!("{} kinds, every list of {length}", alphabet.len());
             generate::short(&alphabet, length, |kinds, joints| {
-                for entry in ENTRIES {
+                for &entry in &entries {
                     seen.look(entry, kinds, &[joints]);
                 }
             });
