@@ -560,7 +560,7 @@ const NESTS: [Nest; 34] = [
     Nest("", "a [", "a", "]", ""),
     Nest("", "a [ {", "a", "} ]", ""),
     Nest("", "a [ 1 :", "a", "]", ""),
-    Nest("", "measure q [", "a", "]", ""),
+    Nest("", "measure q [ (", "a", ") ]", ""),
     Nest("", "g q [", "a", "]", ""),
     Nest("reset", "q [", "a", "]", ";"),
     Nest("barrier", "q [", "a", "]", ";"),

@@ -3,6 +3,7 @@
 pub mod case;
 pub mod generate;
 pub mod lists;
+pub mod replay;
 pub mod rng;
 pub mod text;
 

@@ -2,11 +2,10 @@
 
 use answer::{set_hook, with_stack, CRATE, LOOKUPS};
 use differential::case::{answer_line, bytes, list, Case};
-use differential::text;
+use differential::{replay, text};
 use std::io::{BufRead, Write};
 
 mod record;
-mod replay;
 mod same;
 mod search;
 mod tests;

@@ -1,11 +1,11 @@
 //! What the port must answer, word for word, to the lines of its program `replay`: the watched builds stopped where docs/RULES.md stops
 //! a run. Numbers 1 to 4 and the list check are written from the rules; everything else is the crate's.
 
+use crate::case::{bytes, list, numbers, Case};
+use crate::{generate, lists};
 use answer::{kinds, Bounds, End, Entry, Run, LOOKUPS};
-use differential::case::{bytes, list, numbers, Case};
-use differential::{generate, lists};
 
-/// What a parse says: number, place, events, lookups, words.
+/// What a parse says: its number, its place, and the run where it is done.
 pub struct Said {
     pub code: u8,
     pub place: usize,

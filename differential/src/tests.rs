@@ -2,6 +2,7 @@
 
 use answer::{kinds, permitted, read_steps, Bounds, End, Entry, Ev, Run, Step, CRATE, LOOKUPS};
 use differential::case::Case;
+use differential::generate;
 use differential::text::{kind, tokens, tree};
 use std::panic::{catch_unwind, AssertUnwindSafe};
 
@@ -20,6 +21,7 @@ pub fn run() -> bool {
         ("P8, P10 and P11", p8_p10_p11),
         ("the listing", listing),
         ("minus signs", minus_signs),
+        ("nests", depths),
         ("operators", operators),
         ("glued operators", glued),
         ("the crate's public call", public_call),
@@ -53,6 +55,23 @@ fn watched(case: &Case, room: usize) -> Run {
 
 fn mode1(case: &Case) -> Run {
     oq3_mode1::entries::parse(case.entry, &case.kinds, &case.joints, LOOKUPS)
+}
+
+/// How deep each nest may be, in the order of the generator, as a source file.
+const DEPTHS: [usize; 34] = [
+    62, 62, 62, 62, 62, 62, 62, 32, 31, 62, 62, 62, 62, 31, 31, 31, 20, 31, 32, 32, 32, 31, 64, 64, 62, 62, 63, 65, 62, 31, 63, 32, 63, 62,
+];
+
+fn depths() {
+    for (number, &deep) in DEPTHS.iter().enumerate() {
+        let run = |deep, cut| watched(&Case::of(Source, &generate::nest(number, deep, cut)), usize::MAX);
+        for cut in [false, true] {
+            let (within, beyond) = (run(deep, cut), run(deep + 1, cut));
+            assert!(within.end != End::Depth, "nest {number} of {deep}");
+            assert_eq!((beyond.end, beyond.deepest), (End::Depth, 64), "nest {number} of {}", deep + 1);
+        }
+    }
+    assert_eq!(generate::nests(), DEPTHS.len());
 }
 
 fn run_of(entry: Entry, text: &str) -> Run {
