@@ -103,18 +103,46 @@ fn event_lists() -> Vec<String> {
     lines
 }
 
+/// One number for the answers to many more cases than the files hold (FNV-1a over their lines): every list of at most two tokens, random
+/// cases, random event lists.
+fn digest(answer: &impl Fn(&str) -> String) -> String {
+    let (mut hash, mut count) = (0xcbf2_9ce4_8422_2325u64, 0u64);
+    let mut add = |line: String| {
+        for byte in answer(&line).bytes().chain([b'\n']) {
+            hash = (hash ^ byte as u64).wrapping_mul(0x100_0000_01b3);
+        }
+        count += 1;
+    };
+    for length in 0..=2 {
+        generate::short(answer::permitted(), length, |kinds, joints| {
+            for entry in ENTRIES {
+                add(Case::new(entry, kinds.to_vec(), vec![joints]).line());
+            }
+        });
+    }
+    let mut rng = Rng::new(4);
+    for _ in 0..20_000 {
+        add(generate::any(&mut rng).line());
+    }
+    for _ in 0..5_000 {
+        add(format!("process {}", numbers(&lists::any(&mut rng, oq3_parser::entries::LAST))));
+    }
+    format!("{count} answers, {hash:016x}")
+}
+
 /// Writes the files into a folder.
 pub fn run(folder: &Path, answer: impl Fn(&str) -> String) -> bool {
+    let mut files = vec![("digest.txt".to_string(), vec![digest(&answer)])];
     for (name, lines) in [("parse", cases()), ("process", event_lists())] {
-        let answers: Vec<String> = lines.iter().map(|line| answer(line)).collect();
-        for (end, lines) in [("in", &lines), ("out", &answers)] {
-            let path = folder.join(format!("{name}.{end}"));
-            if let Err(error) = std::fs::write(&path, lines.join("\n") + "\n") {
-                eprintln!("oracle: {}: {error}", path.display());
-                return false;
-            }
-        }
         println!("differential: {} recorded answers in {name}.out", lines.len());
+        files.push((format!("{name}.out"), lines.iter().map(|line| answer(line)).collect()));
+        files.push((format!("{name}.in"), lines));
+    }
+    for (name, lines) in files {
+        if let Err(error) = std::fs::write(folder.join(&name), lines.join("\n") + "\n") {
+            eprintln!("oracle: {name}: {error}");
+            return false;
+        }
     }
     true
 }
