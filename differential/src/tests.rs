@@ -2,7 +2,7 @@
 
 use answer::{kinds, permitted, read_steps, Bounds, End, Entry, Ev, Run, Step, CRATE, LOOKUPS};
 use differential::case::Case;
-use differential::generate;
+use differential::{generate, replay};
 use differential::text::{kind, tokens, tree};
 use std::panic::{catch_unwind, AssertUnwindSafe};
 
@@ -26,6 +26,7 @@ pub fn run() -> bool {
         ("glued operators", glued),
         ("the crate's public call", public_call),
         ("panics", panics),
+        ("rooms where a loop spins", spinning_rooms),
         ("the port's 10,000 lookups", port_limit),
         ("the crate's 15,000,000 lookups", crate_limit),
         ("lists that process cannot take", bad_lists),
@@ -247,34 +248,43 @@ fn public_call() {
     }
 }
 
+const PANICS_PAGE: &str = include_str!(concat!(env!("GRISOLEMP"), "/docs/PANICS.md"));
+
+/// Each row of smallest inputs in docs/PANICS.md: the oracle ends at that site, and the port must answer so.
 fn panics() {
-    for (entry, text, consumed, site) in [
-        (
-            Item,
-            "delay",
-            1,
-            "src/grammar/expressions.rs:459 `assertion failed: p.at(T!['['])` from src/grammar/expressions.rs:459 designator, \
-             src/grammar/items.rs:419 delay_stmt",
-        ),
-        (
-            Item,
-            "for {",
-            2,
-            "src/parser.rs:188 `assertion failed: self.eat(kind)` from src/grammar/expressions.rs:518 set_expression, \
-             src/grammar/items.rs:173 for_stmt",
-        ),
-        (
-            Expr,
-            "a [ {",
-            3,
-            "src/parser.rs:188 `assertion failed: self.eat(kind)` from src/grammar/expressions.rs:518 set_expression, \
-             src/grammar/expressions.rs:527 index_operator",
-        ),
-    ] {
-        let case = case(entry, text);
+    let set = "src/parser.rs:188 `assertion failed: self.eat(kind)` from src/grammar/expressions.rs:518 set_expression";
+    let mut rows = 0;
+    for line in PANICS_PAGE.lines() {
+        let cells: Vec<&str> = line.split('|').map(str::trim).collect();
+        let ["", name, entry, text, code, place, ""] = cells[..] else { continue };
+        let Some(entry) = Entry::of(entry) else { continue };
+        rows += 1;
+        let case = case(entry, text.trim_matches('`'));
         let run = plain(&case, LOOKUPS);
-        assert!(matches!(run.end, End::Panic(_)), "{text}: no panic");
-        assert_eq!((run.tokens, differential::site(&case).as_str()), (consumed, site));
+        match name {
+            "A" => assert_eq!(
+                differential::site(&case),
+                "src/grammar/expressions.rs:459 `assertion failed: p.at(T!['['])` from src/grammar/expressions.rs:459 designator, \
+                 src/grammar/items.rs:419 delay_stmt"
+            ),
+            "B" => assert_eq!(differential::site(&case), format!("{set}, src/grammar/items.rs:173 for_stmt")),
+            "C" => assert_eq!(differential::site(&case), format!("{set}, src/grammar/expressions.rs:527 index_operator")),
+            "D" => assert_eq!((run.end, differential::spinning(&case).as_str()), (End::Lookups, "array_type_spec")),
+            "E" => assert_eq!((run.end, differential::spinning(&case).as_str()), (End::Lookups, "_param_list_openqasm")),
+            _ => panic!("no site {name}"),
+        }
+        assert_eq!(run.tokens.to_string(), place, "{line}");
+        let said = replay::parse(&case, 0, 131_072);
+        assert_eq!((said.code.to_string().as_str(), said.place.to_string().as_str()), (code, place), "{line}");
+    }
+    assert_eq!(rows, 17);
+}
+
+/// The rooms of docs/PANICS.md from which on a spinning loop is refused with 7, and with 5 below.
+fn spinning_rooms() {
+    for (text, room) in [("array", 10_006), ("array )", 7_508), ("array }", 10_007), ("def f ( 3", 22_508)] {
+        let case = case(Item, text);
+        assert_eq!((replay::parse(&case, 0, 2 * room).code, replay::parse(&case, 0, 2 * room - 1).code), (7, 5), "{text}");
     }
 }
 
