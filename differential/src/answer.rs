@@ -273,11 +273,8 @@ pub fn set_hook() {
             return old(info);
         }
         let payload = info.payload();
-        let said = payload
-            .downcast_ref::<&str>()
-            .map(|s| s.to_string())
-            .or_else(|| payload.downcast_ref::<String>().cloned())
-            .unwrap_or_default();
+        let said =
+            payload.downcast_ref::<&str>().map(|s| s.to_string()).or_else(|| payload.downcast_ref::<String>().cloned()).unwrap_or_default();
         let place = info.location().unwrap();
         let from = if TRACES.get() { caller() } else { String::new() };
         LAST.set(Some(Panic { file: place.file().to_string(), line: place.line(), said, from }));
@@ -307,7 +304,11 @@ extern "C" fn note(context: *mut u8, list: *mut u8) -> i32 {
     let list = unsafe { &mut *(list as *mut Vec<usize>) };
     list.push(unsafe { _Unwind_GetIP(context) });
     // 5 is the code that ends the walk
-    if list.len() < 40 { 0 } else { 5 }
+    if list.len() < 40 {
+        0
+    } else {
+        5
+    }
 }
 
 /// The lines of the grammar on the stack, innermost first, as `FILE:LINE function`. Naming the lines is slow, so it is done once for each

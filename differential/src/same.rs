@@ -9,7 +9,8 @@ use differential::{generate, lists};
 /// Compares `count` cases and a quarter as many lists, from a seed, and the shortest lists of tokens; true where nothing differs.
 pub fn run(count: u64, seed: u64) -> bool {
     let mut differing = 0;
-    let mut seen = Seen { ends: [0; 3], codes: [false; 38], most: 0, nodes: vec![false; kinds().len()], tokens: vec![false; kinds().len()] };
+    let mut seen =
+        Seen { ends: [0; 3], codes: [false; 38], most: 0, nodes: vec![false; kinds().len()], tokens: vec![false; kinds().len()] };
     let mut rng = Rng::new(seed);
     for length in 0..=1 {
         generate::short(answer::permitted(), length, |kinds, joints| {
@@ -139,7 +140,9 @@ fn list(words: &[u32], passing: &mut u64) -> bool {
     match oq3_parser::entries::process(words) {
         Some(Ok(_)) => return true,
         // words that are no events, or a kind that the crate has not
-        None if !passes || words.chunks(2).any(|w| (65_536..262_144).contains(&w[0]) && w[0] % 65_536 > oq3_parser::entries::LAST as u32) => {
+        None if !passes
+            || words.chunks(2).any(|w| (65_536..262_144).contains(&w[0]) && w[0] % 65_536 > oq3_parser::entries::LAST as u32) =>
+        {
             return true;
         }
         Some(Err(_)) if !passes => return true,

@@ -69,7 +69,12 @@ impl Seen {
         println!("most lookups since a token in a done run: {} ({})", self.most, self.most_at);
         println!("most events for each token in a done run: {:.2} ({})", self.ratio, self.ratio_at);
         for ((site, entry), seen) in &self.sites {
-            println!("{site}\n    {} {} times; smallest: {}", entry.name(), seen.count, names(&seen.smallest.kinds, |i| seen.smallest.joint(i)));
+            println!(
+                "{site}\n    {} {} times; smallest: {}",
+                entry.name(),
+                seen.count,
+                names(&seen.smallest.kinds, |i| seen.smallest.joint(i))
+            );
             println!("    tokens consumed {}, events {}; {}", seen.consumed, seen.events, seen.smallest.line());
         }
     }

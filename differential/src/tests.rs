@@ -2,8 +2,8 @@
 
 use answer::{kinds, permitted, read_steps, Bounds, End, Entry, Ev, Run, Step, CRATE, LOOKUPS};
 use differential::case::Case;
-use differential::{generate, replay};
 use differential::text::{kind, tokens, tree};
+use differential::{generate, replay};
 use std::panic::{catch_unwind, AssertUnwindSafe};
 
 use Entry::{Expr, Item, Source};
@@ -23,6 +23,7 @@ pub fn run() -> bool {
         ("minus signs", minus_signs),
         ("nests", depths),
         ("operators", operators),
+        ("powers", powers),
         ("glued operators", glued),
         ("the crate's public call", public_call),
         ("panics", panics),
@@ -223,6 +224,57 @@ fn operators() {
     assert_eq!(tree_of(&sum), format!("(BIN_EXPR {A} PLUS (ASSIGNMENT_STMT {A} EQ (LITERAL INT_NUMBER) !22))"));
     let set = run_of(Expr, "a = b + c");
     assert_eq!(tree_of(&set), format!("(BIN_EXPR (ASSIGNMENT_STMT {A} EQ {A} !22) PLUS {A})"));
+}
+
+/// The operators with their powers in mode 0 and mode 1, and whether they group to the right.
+const POWERS: [(&str, u8, u8, bool); 32] = [
+    ("=", 12, 20, true),
+    ("+=", 1, 1, true),
+    ("-=", 1, 1, true),
+    ("*=", 1, 1, true),
+    ("/=", 1, 1, true),
+    ("%=", 1, 1, true),
+    ("&=", 1, 1, true),
+    ("|=", 1, 1, true),
+    ("^=", 1, 1, true),
+    ("<<=", 1, 1, true),
+    (">>=", 1, 1, true),
+    ("++", 2, 2, false),
+    ("..", 2, 2, false),
+    ("..=", 2, 2, false),
+    ("||", 3, 3, false),
+    ("&&", 4, 4, false),
+    ("==", 5, 12, false),
+    ("!=", 5, 12, false),
+    ("<", 5, 12, false),
+    (">", 5, 12, false),
+    ("<=", 5, 12, false),
+    (">=", 5, 12, false),
+    ("|", 6, 6, false),
+    ("^", 7, 8, false),
+    ("&", 8, 10, false),
+    ("<<", 9, 14, false),
+    (">>", 9, 14, false),
+    ("+", 10, 16, false),
+    ("-", 10, 16, false),
+    ("*", 11, 18, false),
+    ("/", 11, 18, false),
+    ("%", 11, 18, false),
+];
+
+/// `a first b second c` groups as the powers say, for every two operators, in both modes.
+fn powers() {
+    for (first, first0, first1, right) in POWERS {
+        for (second, second0, second1, _) in POWERS {
+            let case = case(Expr, &format!("a {first} b {second} c"));
+            for (run, left, next) in [(plain(&case, LOOKUPS), first0, second0), (mode1(&case), first1, second1)] {
+                let tree = tree_of(&run);
+                let opened = tree.split("(IDENTIFIER").next().unwrap().matches('(').count();
+                let inner = next >= if right { left } else { left + 1 };
+                assert_eq!(opened, if inner { 1 } else { 2 }, "{first} {second}: {tree}");
+            }
+        }
+    }
 }
 
 fn glued() {
