@@ -133,6 +133,15 @@ pub fn chained(rng: &mut Rng, kinds: u16, most: usize) -> Vec<Ev> {
     list
 }
 
+/// One chain of `starts` starts of a kind, each pointing to the next, and a finish for each that has a kind.
+pub fn chain(kind: u16, starts: usize) -> Vec<Ev> {
+    let mut list: Vec<Ev> = (1..=starts).map(|i| Ev::Start(kind, (i < starts) as u32)).collect();
+    if kind != 0 {
+        list.extend(std::iter::repeat_n(Ev::Finish, starts));
+    }
+    list
+}
+
 /// A list at random: made, chained, damaged, or words that are mostly no events.
 pub fn any(rng: &mut Rng, kinds: u16) -> Vec<u32> {
     let most = *rng.pick(&[3, 10, 40, 200]);

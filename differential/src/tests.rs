@@ -3,7 +3,7 @@
 use answer::{kinds, permitted, read_steps, Bounds, End, Entry, Ev, Run, Step, CRATE, LOOKUPS};
 use differential::case::Case;
 use differential::text::{kind, tokens, tree};
-use differential::{generate, replay};
+use differential::{generate, lists, replay};
 use std::panic::{catch_unwind, AssertUnwindSafe};
 
 use Entry::{Expr, Item, Source};
@@ -19,6 +19,7 @@ pub fn run() -> bool {
         ("P5", p5),
         ("P6", p6),
         ("P8, P10 and P11", p8_p10_p11),
+        ("the list check, P7 and P9", list_check),
         ("the listing", listing),
         ("minus signs", minus_signs),
         ("nests", depths),
@@ -168,6 +169,20 @@ fn p8_p10_p11() {
     let list = [Ev::Start(40, 2), Ev::Start(41, 1), Ev::Start(42, 0), Ev::Finish, Ev::Finish, Ev::Finish];
     let steps = [Step::Enter(42), Step::Enter(40), Step::Enter(41), Step::Leave, Step::Leave, Step::Leave];
     assert_eq!(resolved(&list), steps);
+}
+
+/// The list check, which is written from the rules and is not the crate's: P7, P9, lists of an odd number of words, and long ones.
+fn list_check() {
+    assert_eq!(lists::check(&words(&[Ev::Finish])), Err((9, 0)));
+    assert_eq!(lists::check(&words(&[Ev::Start(40, 0)])), Err((9, 1)));
+    assert_eq!(lists::check(&[65_536, 0, 65_536]), Err((9, 1)));
+    assert_eq!(lists::check(&words(&vec![Ev::Start(0, 0); 65_537])), Err((2, 0)));
+    // the longest chains: all of it tombstones, or half of it starts with a kind
+    for (kind, starts, steps) in [(0, 65_536, 0), (40, 32_768, 65_536)] {
+        let list = lists::chain(kind, starts);
+        assert_eq!(lists::check(&words(&list)), Ok(65_536));
+        assert_eq!(resolved(&list).len(), steps);
+    }
 }
 
 fn listing() {
