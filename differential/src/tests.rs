@@ -1,0 +1,387 @@
+//! The oracle's tests: it answers what document 01 says, and the stand-ins do what the crates do that they stand for.
+
+use answer::{kinds, permitted, read_steps, Bounds, End, Entry, Ev, Run, Step, CRATE, LOOKUPS};
+use differential::case::Case;
+use differential::text::{kind, tokens, tree};
+use differential::{generate, lists, replay};
+use std::panic::{catch_unwind, AssertUnwindSafe};
+
+use Entry::{Expr, Item, Source};
+
+/// Runs every test; true where all pass.
+pub fn run() -> bool {
+    let tests: &[(&str, fn())] = &[
+        ("the stand-in for limit", limit_stands_in),
+        ("the stand-in for drop_bomb", drop_bomb_stands_in),
+        ("the lists in docs", lists_are_the_crates),
+        ("P1 and P2", p1_p2),
+        ("P3 and P4", p3_p4),
+        ("P5", p5),
+        ("P6", p6),
+        ("P8, P10 and P11", p8_p10_p11),
+        ("the list check, P7 and P9", list_check),
+        ("the listing", listing),
+        ("minus signs", minus_signs),
+        ("nests", depths),
+        ("operators", operators),
+        ("powers", powers),
+        ("glued operators", glued),
+        ("the crate's public call", public_call),
+        ("panics", panics),
+        ("rooms where a loop spins", spinning_rooms),
+        ("the port's 10,000 lookups", port_limit),
+        ("the crate's 15,000,000 lookups", crate_limit),
+        ("lists that process cannot take", bad_lists),
+    ];
+    let mut failed = 0;
+    for (name, test) in tests {
+        if catch_unwind(AssertUnwindSafe(test)).is_err() {
+            println!("differential: the test of {name} failed");
+            failed += 1;
+        }
+    }
+    println!("differential: {} tests passed, {failed} failed", tests.len() - failed);
+    failed == 0
+}
+
+fn case(entry: Entry, text: &str) -> Case {
+    Case::of(entry, &tokens(text).expect("tokens"))
+}
+
+fn plain(case: &Case, bounds: Bounds) -> Run {
+    oq3_parser::entries::parse(case.entry, &case.kinds, &case.joints, bounds)
+}
+
+fn watched(case: &Case, room: usize) -> Run {
+    oq3_watched::entries::parse(case.entry, &case.kinds, &case.joints, Bounds { room, depth: 64, ..LOOKUPS })
+}
+
+fn mode1(case: &Case) -> Run {
+    oq3_mode1::entries::parse(case.entry, &case.kinds, &case.joints, LOOKUPS)
+}
+
+/// How deep each nest may be, in the order of the generator, as a source file.
+const DEPTHS: [usize; 34] = [
+    62, 62, 62, 62, 62, 62, 62, 32, 31, 62, 62, 62, 62, 31, 31, 31, 20, 31, 32, 32, 32, 31, 64, 64, 62, 62, 63, 65, 62, 31, 63, 32, 63, 62,
+];
+
+fn depths() {
+    for (number, &deep) in DEPTHS.iter().enumerate() {
+        let run = |deep, cut| watched(&Case::of(Source, &generate::nest(number, deep, cut)), usize::MAX);
+        for cut in [false, true] {
+            let (within, beyond) = (run(deep, cut), run(deep + 1, cut));
+            assert!(within.end != End::Depth, "nest {number} of {deep}");
+            assert_eq!((beyond.end, beyond.deepest), (End::Depth, 64), "nest {number} of {}", deep + 1);
+        }
+    }
+    assert_eq!(generate::nests(), DEPTHS.len());
+}
+
+fn run_of(entry: Entry, text: &str) -> Run {
+    plain(&case(entry, text), LOOKUPS)
+}
+
+fn tree_of(run: &Run) -> String {
+    assert_eq!(run.end, End::Done);
+    tree(&read_steps(&run.steps))
+}
+
+fn words(events: &[Ev]) -> Vec<u32> {
+    events.iter().flat_map(|e| e.words()).collect()
+}
+
+fn limit_stands_in() {
+    limit::begin(limit::CRATE);
+    let bound = limit::Limit::new(5);
+    assert!(bound.check(5).is_ok() && bound.check(6).is_err());
+    limit::begin(3);
+    assert!(bound.check(3).is_ok() && !limit::stuck() && bound.check(4).is_err() && limit::stuck());
+    assert_eq!((limit::lookups(), limit::most()), (1, 4));
+}
+
+fn drop_bomb_stands_in() {
+    let dropped = answer::caught(|| drop(drop_bomb::DropBomb::new("dropped")));
+    assert_eq!(dropped.unwrap_err().1.unwrap().said, "dropped");
+    let defused = answer::caught(|| drop_bomb::DropBomb::new("dropped").defuse());
+    assert!(defused.is_ok());
+    // a bomb that is dropped while its thread panics keeps quiet: a second panic would end the program
+    let unwound = answer::caught(|| {
+        let _bomb = drop_bomb::DropBomb::new("dropped");
+        panic!("first")
+    });
+    assert_eq!(unwound.unwrap_err().1.unwrap().said, "first");
+}
+
+fn lists_are_the_crates() {
+    assert_eq!(kinds().len(), oq3_parser::entries::LAST as usize + 1);
+    for (number, kind) in kinds().iter().enumerate() {
+        assert_eq!(kind.name, oq3_parser::entries::kind_name(number as u16));
+    }
+    assert_eq!(permitted().len(), 92);
+    let rows = answer::messages();
+    assert!(rows.iter().map(|r| r.0).eq(2..=37));
+    for (code, text) in rows {
+        assert_eq!(answer::message(&text), (code, 0));
+    }
+}
+
+fn p1_p2() {
+    let case = case(Item, "break ;");
+    let run = plain(&case, LOOKUPS);
+    let list = [Ev::Start(kind("BREAK_STMT"), 0), Ev::Token(kind("BREAK_KW"), 1), Ev::Token(kind("SEMICOLON"), 1), Ev::Finish];
+    assert_eq!((&run.end, run.tokens, run.events, run.lookups), (&End::Done, 2, 4, 3));
+    assert_eq!(run.words, words(&list));
+    assert_eq!(watched(&case, 4).end, End::Done);
+    let full = watched(&case, 3);
+    assert_eq!((full.end, full.tokens), (End::Room, 2));
+}
+
+fn p3_p4() {
+    let case = case(Item, "");
+    let run = plain(&case, LOOKUPS);
+    assert_eq!((&run.end, run.tokens, run.events, run.lookups), (&End::Done, 0, 0, 4));
+    let run = watched(&case, 1);
+    assert_eq!((&run.end, run.peak), (&End::Done, 1));
+    let full = watched(&case, 0);
+    assert_eq!((full.end, full.tokens), (End::Room, 0));
+}
+
+fn p5() {
+    let run = run_of(Item, "}");
+    assert_eq!(tree_of(&run), "(ERROR !32 R_CURLY)");
+    assert_eq!(run.lookups, 4);
+}
+
+fn p6() {
+    let run = run_of(Item, "reset ;");
+    assert_eq!(tree_of(&run), "RESET_KW !34 (ERROR !31 SEMICOLON)");
+    assert_eq!((run.events, run.lookups), (7, 7));
+}
+
+fn resolved(events: &[Ev]) -> Vec<Step> {
+    let file = oq3_parser::entries::process(&words(events)).expect("events").expect("no panic");
+    read_steps(&file)
+}
+
+fn p8_p10_p11() {
+    assert_eq!(resolved(&[Ev::Start(0, 0)]), []);
+    assert_eq!(resolved(&[]), []);
+    let list = [Ev::Start(40, 2), Ev::Start(41, 1), Ev::Start(42, 0), Ev::Finish, Ev::Finish, Ev::Finish];
+    let steps = [Step::Enter(42), Step::Enter(40), Step::Enter(41), Step::Leave, Step::Leave, Step::Leave];
+    assert_eq!(resolved(&list), steps);
+}
+
+/// The list check, which is written from the rules and is not the crate's: P7, P9, lists of an odd number of words, and long ones.
+fn list_check() {
+    assert_eq!(lists::check(&words(&[Ev::Finish])), Err((9, 0)));
+    assert_eq!(lists::check(&words(&[Ev::Start(40, 0)])), Err((9, 1)));
+    assert_eq!(lists::check(&[65_536, 0, 65_536]), Err((9, 1)));
+    assert_eq!(lists::check(&words(&vec![Ev::Start(0, 0); 65_537])), Err((2, 0)));
+    // the longest chains: all of it tombstones, or half of it starts with a kind
+    for (kind, starts, steps) in [(0, 65_536, 0), (40, 32_768, 65_536)] {
+        let list = lists::chain(kind, starts);
+        assert_eq!(lists::check(&words(&list)), Ok(65_536));
+        assert_eq!(resolved(&list).len(), steps);
+    }
+}
+
+fn listing() {
+    use Ev::*;
+    let list = [
+        Start(0, 1),
+        Start(40, 3),
+        Token(50, 1),
+        Finish,
+        Start(41, 0),
+        Token(51, 1),
+        Start(0, 1),
+        Start(40, 0),
+        Token(50, 1),
+        Finish,
+        Finish,
+    ];
+    let steps = [
+        Step::Enter(41),
+        Step::Enter(40),
+        Step::Token(50, 1),
+        Step::Leave,
+        Step::Token(51, 1),
+        Step::Enter(40),
+        Step::Token(50, 1),
+        Step::Leave,
+        Step::Leave,
+    ];
+    assert_eq!(resolved(&list), steps);
+    let file = oq3_parser::entries::process(&words(&list)).unwrap().unwrap();
+    assert_eq!(file.len(), 51);
+}
+
+fn minus_signs() {
+    let with = |n: usize| case(Expr, &format!("{}a", "- ".repeat(n)));
+    // the crate has no depth limit: 63 and 64 are done, and so are 8,191
+    for n in [63, 64, 8191] {
+        let run = plain(&with(n), CRATE);
+        assert_eq!((run.end, run.tokens), (End::Done, n + 1));
+    }
+    let last = watched(&with(63), usize::MAX);
+    assert_eq!((last.end, last.tokens, last.deepest), (End::Done, 64, 64));
+    let over = watched(&with(64), usize::MAX);
+    assert_eq!((over.end, over.tokens), (End::Depth, 64));
+}
+
+const A: &str = "(IDENTIFIER IDENT)";
+
+fn operators() {
+    let and = case(Expr, "a & b == c");
+    assert_eq!(tree_of(&plain(&and, LOOKUPS)), format!("(BIN_EXPR (BIN_EXPR {A} AMP {A}) EQ2/2 {A})"));
+    assert_eq!(tree_of(&mode1(&and)), format!("(BIN_EXPR {A} AMP (BIN_EXPR {A} EQ2/2 {A}))"));
+    let sum = run_of(Expr, "x + y = 3");
+    assert_eq!(tree_of(&sum), format!("(BIN_EXPR {A} PLUS (ASSIGNMENT_STMT {A} EQ (LITERAL INT_NUMBER) !22))"));
+    let set = run_of(Expr, "a = b + c");
+    assert_eq!(tree_of(&set), format!("(BIN_EXPR (ASSIGNMENT_STMT {A} EQ {A} !22) PLUS {A})"));
+}
+
+/// The operators with their powers in mode 0 and mode 1, and whether they group to the right.
+const POWERS: [(&str, u8, u8, bool); 32] = [
+    ("=", 12, 20, true),
+    ("+=", 1, 1, true),
+    ("-=", 1, 1, true),
+    ("*=", 1, 1, true),
+    ("/=", 1, 1, true),
+    ("%=", 1, 1, true),
+    ("&=", 1, 1, true),
+    ("|=", 1, 1, true),
+    ("^=", 1, 1, true),
+    ("<<=", 1, 1, true),
+    (">>=", 1, 1, true),
+    ("++", 2, 2, false),
+    ("..", 2, 2, false),
+    ("..=", 2, 2, false),
+    ("||", 3, 3, false),
+    ("&&", 4, 4, false),
+    ("==", 5, 12, false),
+    ("!=", 5, 12, false),
+    ("<", 5, 12, false),
+    (">", 5, 12, false),
+    ("<=", 5, 12, false),
+    (">=", 5, 12, false),
+    ("|", 6, 6, false),
+    ("^", 7, 8, false),
+    ("&", 8, 10, false),
+    ("<<", 9, 14, false),
+    (">>", 9, 14, false),
+    ("+", 10, 16, false),
+    ("-", 10, 16, false),
+    ("*", 11, 18, false),
+    ("/", 11, 18, false),
+    ("%", 11, 18, false),
+];
+
+/// `a first b second c` groups as the powers say, for every two operators, in both modes.
+fn powers() {
+    for (first, first0, first1, right) in POWERS {
+        for (second, second0, second1, _) in POWERS {
+            let case = case(Expr, &format!("a {first} b {second} c"));
+            for (run, left, next) in [(plain(&case, LOOKUPS), first0, second0), (mode1(&case), first1, second1)] {
+                let tree = tree_of(&run);
+                let opened = tree.split("(IDENTIFIER").next().unwrap().matches('(').count();
+                let inner = next >= if right { left } else { left + 1 };
+                assert_eq!(opened, if inner { 1 } else { 2 }, "{first} {second}: {tree}");
+            }
+        }
+    }
+}
+
+fn glued() {
+    // `> >` is one operator only with its joint bit, and `..` is read where `...` stands
+    assert_eq!(tree_of(&run_of(Expr, "a >> b")), format!("(BIN_EXPR {A} SHR/2 {A})"));
+    assert_eq!(tree_of(&run_of(Expr, "a > > b")), format!("(BIN_EXPR {A} R_ANGLE (ERROR !21 R_ANGLE))"));
+    assert_eq!(tree_of(&run_of(Expr, "a ... b")), format!("(BIN_EXPR {A} DOT2/2 (ERROR !11 DOT))"));
+    assert_eq!(tree_of(&run_of(Expr, "a >>= b")), format!("(BIN_EXPR {A} SHREQ/3 {A})"));
+}
+
+fn public_call() {
+    let programs = [
+        "",
+        "OPENQASM 3.0; include \"stdgates.inc\"; qubit[2] q; h q[0]; cx q[0], q[1]; bit[2] c = measure q;",
+        "def f(int[32] a) -> bit { if (a == 3) { return 1; } else if (a) { } } for int i in [0:2:8] { x $0; }",
+        "} ; reset ; 3 + ; let a = b ++ c;",
+    ];
+    for text in programs {
+        let case = case(Source, text);
+        let run = plain(&case, LOOKUPS);
+        assert_eq!(run.end, End::Done);
+        assert_eq!(run.steps, oq3_parser::entries::parse_public(&case.kinds, &case.joints));
+    }
+}
+
+const PANICS_PAGE: &str = include_str!(concat!(env!("GRISOLEMP"), "/docs/PANICS.md"));
+
+/// Each row of smallest inputs in docs/PANICS.md: the oracle ends at that site, and the port must answer so.
+fn panics() {
+    let set = "src/parser.rs:188 `assertion failed: self.eat(kind)` from src/grammar/expressions.rs:518 set_expression";
+    let mut rows = 0;
+    for line in PANICS_PAGE.lines() {
+        let cells: Vec<&str> = line.split('|').map(str::trim).collect();
+        let ["", name, entry, text, code, place, ""] = cells[..] else { continue };
+        let Some(entry) = Entry::of(entry) else { continue };
+        rows += 1;
+        let case = case(entry, text.trim_matches('`'));
+        let run = plain(&case, LOOKUPS);
+        match name {
+            "A" => assert_eq!(
+                differential::site(&case),
+                "src/grammar/expressions.rs:459 `assertion failed: p.at(T!['['])` from src/grammar/expressions.rs:459 designator, \
+                 src/grammar/items.rs:419 delay_stmt"
+            ),
+            "B" => assert_eq!(differential::site(&case), format!("{set}, src/grammar/items.rs:173 for_stmt")),
+            "C" => assert_eq!(differential::site(&case), format!("{set}, src/grammar/expressions.rs:527 index_operator")),
+            "D" => assert_eq!((run.end, differential::spinning(&case).as_str()), (End::Lookups, "array_type_spec")),
+            "E" => assert_eq!((run.end, differential::spinning(&case).as_str()), (End::Lookups, "_param_list_openqasm")),
+            _ => panic!("no site {name}"),
+        }
+        assert_eq!(run.tokens.to_string(), place, "{line}");
+        let said = replay::parse(&case, 0, 131_072);
+        assert_eq!((said.code.to_string().as_str(), said.place.to_string().as_str()), (code, place), "{line}");
+    }
+    assert_eq!(rows, 17);
+}
+
+/// The rooms of docs/PANICS.md from which on a spinning loop is refused with 7, and with 5 below.
+fn spinning_rooms() {
+    for (text, room) in [("array", 10_006), ("array )", 7_508), ("array }", 10_007), ("def f ( 3", 22_508)] {
+        let case = case(Item, text);
+        assert_eq!((replay::parse(&case, 0, 2 * room).code, replay::parse(&case, 0, 2 * room - 1).code), (7, 5), "{text}");
+    }
+}
+
+fn port_limit() {
+    // the 10,001st lookup since a token is the first that is not made
+    for (text, consumed, looping) in [
+        ("array", 1, "array_type_spec"),
+        ("array )", 1, "array_type_spec"),
+        ("array }", 1, "array_type_spec"),
+        ("def f ( 3", 3, "_param_list_openqasm"),
+    ] {
+        let case = case(Item, text);
+        let run = plain(&case, LOOKUPS);
+        assert_eq!((&run.end, run.tokens, run.most), (&End::Lookups, consumed, 10_000), "{text}");
+        assert_eq!(differential::spinning(&case), looping);
+    }
+}
+
+fn crate_limit() {
+    let run = plain(&case(Item, "array )"), CRATE);
+    let End::Panic(panic) = run.end else { panic!("no panic") };
+    assert_eq!((panic.file.as_str(), panic.line, panic.said.as_str()), ("src/parser.rs", 75, "the parser seems stuck"));
+    // the check fails for more than 15,000,000, so one lookup more is made
+    assert_eq!(run.most, 15_000_001);
+}
+
+fn bad_lists() {
+    let said = |list: &[Ev]| oq3_parser::entries::process(&words(list)).unwrap().unwrap_err();
+    let past = said(&[Ev::Start(40, 2), Ev::Finish]);
+    assert_eq!((past.file.as_str(), past.line), ("src/event.rs", 118));
+    let token = said(&[Ev::Start(40, 1), Ev::Token(50, 1), Ev::Finish]);
+    assert_eq!((token.file.as_str(), token.line), ("src/event.rs", 126));
+}
