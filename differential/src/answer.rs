@@ -1,4 +1,4 @@
-//! What a run answers, in one shape for every build of the crate: entries, ends, the encodings of document 01, the numbers of the
+//! What a run answers, in one shape for every build of the crate: entries, ends, the encodings of docs/RULES.md, the numbers of the
 //! messages, and how a panic is caught and named.
 
 use std::cell::{Cell, RefCell};

@@ -1,4 +1,4 @@
-//! The oracle's tests: it answers what document 01 says, and the stand-ins do what the crates do that they stand for.
+//! The oracle's tests: it answers what docs/RULES.md says, and the stand-ins do what the crates do that they stand for.
 
 use answer::{kinds, permitted, read_steps, Bounds, End, Entry, Ev, Run, Step, CRATE, LOOKUPS};
 use differential::case::Case;

@@ -11,7 +11,7 @@ pub enum Stop {
     Depth,
 }
 
-/// The depth of document 01.
+/// The depth of docs/RULES.md.
 pub const DEPTH: usize = 64;
 
 thread_local! {
