@@ -3,16 +3,16 @@
 use Prim.Native.Nat.{ℕ, zero, suc, _+_, _*_, _≤_, _<_}
 use native.Mathlib.Omega.{arith}
 use mathlib.Core.Path.{_≡_, refl, sym, ap, _∙_}
-use mathlib.Core.Bool.{Bool, true, false, true≢false}
-use mathlib.Core.List.{List, [], _∷_, _++_, append-assoc, map-append}
-use lib.ListN.{length, getD, take, drop, set, length-set, length-append, length-take, length-drop, take-append-drop}
-use lib.Seq.{getD-drop, drop-drop, take-add, take-at, drop-at, set-split, drop-set-lt, take-suc-set}
+use mathlib.Core.Bool.{false, true≢false}
+use mathlib.Core.List.{List, [], _∷_, _++_, append-assoc}
+use lib.ListN.{length, getD, take, drop, set, length-set, length-append, length-drop, take-append-drop}
+use lib.Seq.{getD-drop, drop-drop, take-add, drop-set-lt, take-suc-set}
 use Rattle.events.specs.declared.event.Event.{Event}
 use Rattle.events.specs.declared.event.Event.the-variants.{Start, Finish, Token, Error, NoEvent}
 use Rattle.events.specs.declared.output.Step.{Step}
 use Rattle.events.specs.Event.{tombstone, distance}
 use Rattle.events.specs.Output.{bytes, over, Wrote}
-use Rattle.events.specs.Process.{Placed, placed, Followed, follow, enters, entered, chain, stepsOf, file}
+use Rattle.events.specs.Process.{placed, Followed, follow, enters, entered, chain, stepsOf, file}
 use Rattle.events.specs.Shape.{own, cost}
 use Rattle.events.proofs.Writes.{file-append, over-none, over-back, length-over, cost-le}
 

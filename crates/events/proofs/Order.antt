@@ -2,18 +2,17 @@
 -- Assumes nothing.
 use Prim.Native.Nat.{ℕ, zero, suc}
 use native.Mathlib.Omega.{arith}
-use mathlib.Core.Path.{_≡_, refl, sym, ap, _∙_}
+use mathlib.Core.Path.{_≡_, refl}
 use mathlib.Core.Bool.{Bool, true, false, cond}
-use mathlib.Core.List.{List, [], _∷_, _++_, append-assoc}
+use mathlib.Core.List.{List, [], _∷_, _++_}
 use lib.Dec.{eqb}
 use lib.ListN.{length}
 use Rattle.events.specs.declared.event.Event.{Event}
 use Rattle.events.specs.declared.event.Event.the-variants.{Start, Finish, Token, Error, NoEvent}
 use Rattle.events.specs.declared.output.Step.{Step}
 use Rattle.events.specs.declared.output.Step.the-variants.{Enter as enter}
-use Rattle.events.specs.Event.{isStart}
 use Rattle.events.specs.Process.{Placed, placed, Parent, follow, enters, entered, turn, turns, process}
-use Rattle.events.specs.Shape.{own, isEnter, others, plain}
+use Rattle.events.specs.Shape.{isEnter, others, plain}
 use Rattle.events.proofs.Encoding.{by-test}
 use Rattle.events.proofs.Running.{length-turn}
 

@@ -2,10 +2,10 @@
 -- Assumes nothing.
 use Prim.Native.Nat.{ℕ, zero, suc, _+_, _<_}
 use native.Mathlib.Omega.{arith}
-use native.Mathlib.Nat.{add-zero, add-suc}
-use mathlib.Core.Path.{_≡_, refl, sym, ap, _∙_}
+use native.Mathlib.Nat.{add-zero}
+use mathlib.Core.Path.{_≡_, refl, _∙_}
 use mathlib.Core.Bool.{Bool, true, false, cond}
-use mathlib.Core.List.{List, [], _∷_, _++_, append-nil, append-assoc, map-append}
+use mathlib.Core.List.{List, [], _∷_, _++_, append-nil, map-append}
 use lib.Dec.{eqb}
 use lib.ListN.{length, getD}
 use borrow.Author.Tests.{eq-eqb, ne-eqb, eqb-true, eqb-false}
@@ -13,8 +13,7 @@ use Rattle.events.specs.declared.event.Event.{Event}
 use Rattle.events.specs.declared.event.Event.the-variants.{Start, Finish, Token, Error, NoEvent}
 use Rattle.events.specs.declared.output.Step.{Step}
 use Rattle.events.specs.declared.output.Step.the-variants.{Enter as enter, Leave as leave, Token as token, Error as error}
-use Rattle.events.specs.Event.{tombstone}
-use Rattle.events.specs.Process.{Placed, placed, Parent, Followed, follow, enters, entered, turn, turns, process, stepsOf}
+use Rattle.events.specs.Process.{Placed, placed, Parent, follow, enters, entered, turn, turns, process, stepsOf}
 use Rattle.events.specs.Shape.{own, from, entersTombstone}
 use Rattle.events.proofs.Running.{length-turn}
 

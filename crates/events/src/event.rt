@@ -5,7 +5,7 @@ ghost use mathlib.Core.Path.{_≡_};
 ghost use mathlib.Core.Bool.{false};
 ghost use mathlib.Core.List.{_∷_, _++_};
 ghost use Prim.Native.Nat.{suc, _+_, _*_, _/_, _<_, _≤_};
-ghost use lib.ListN.{length, getD, take, drop, set};
+ghost use lib.ListN.{length, getD, take, set};
 ghost use Rattle.events.specs.Event.{decode, eventsOf, wordsOf, isStart, distance, tombstone};
 ghost use Rattle.events.specs.Output.{bytes, over, Wrote};
 ghost use Rattle.events.specs.Process.{chain, entered, turnAt, process, file};
@@ -56,7 +56,7 @@ pub fn decode(a: u32, b: u32) -> Event
 }
 
 // Event i of a list.
-pub fn event_at(words: &[u32], i: usize) -> Event
+pub(crate) fn event_at(words: &[u32], i: usize) -> Event
     requires { ⌜ i < length (now words) / 2 ⌝ }
     ensures { λ r. ⌜ r ≡ getD (eventsOf (now (words .entry))) i Event.NoEvent ⌝ }
 {
@@ -72,7 +72,7 @@ fn clear(words: &mut [u32], i: usize)
     words[2 * i + 1] = 0;
 }
 
-pub fn is_start(e: Event) -> bool
+pub(crate) fn is_start(e: Event) -> bool
     ensures { λ r. ⌜ r ≡ isStart e ⌝ }
 {
     match e {
@@ -129,7 +129,7 @@ fn put_own(out: &mut [u8], at: usize, e: Event) -> usize
 }
 
 // The bytes that the steps of a list take: each event's own, since each is asked for once.
-pub fn needed(words: &[u32]) -> usize
+pub(crate) fn needed(words: &[u32]) -> usize
     ensures { λ r. ⌜ r ≡ need (eventsOf (now (words .entry))) ⌝ }
 {
     let n = words.len() / 2;
@@ -199,7 +199,7 @@ fn turn(words: &mut [u32], out: &mut [u8], i: usize, at: usize) -> usize
 }
 
 // Resolves a list that passes the check into a room that holds its step file; the bytes of the file.
-pub fn process(words: &mut [u32], out: &mut [u8]) -> usize
+pub(crate) fn process(words: &mut [u32], out: &mut [u8]) -> usize
     requires { ⌜ length (now words) ≡ 2 * (length (now words) / 2) ⌝ }
     requires { ⌜ process (eventsOf (now words)) .panics ≡ false ⌝ }
     requires { ⌜ length (file (process (eventsOf (now words)) .steps)) ≤ length (now out) ⌝ }

@@ -1,5 +1,4 @@
 // Steps, and their records in a step file: payload length, record kind, payload, little-endian.
-ghost use mathlib.Core.Path.{_≡_};
 ghost use Prim.Native.Nat.{_+_, _≤_};
 ghost use mathlib.Core.List.{[], _∷_, _++_};
 ghost use lib.ListN.{length};
@@ -40,7 +39,7 @@ fn put_head(out: &mut [u8], at: usize, size: u16, kind: u16) -> usize
 }
 
 // A step's record.
-pub fn put(out: &mut [u8], at: usize, s: Step) -> usize
+pub(crate) fn put(out: &mut [u8], at: usize, s: Step) -> usize
     requires { ⌜ at + length (recordOf s) ≤ length (now out) ⌝ }
     ensures { λ r. ⌜ Wrote (now (out .entry)) at (recordOf s) r (now (out .exit)) ⌝ }
 {

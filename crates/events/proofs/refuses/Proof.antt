@@ -2,9 +2,9 @@
 -- Assumes nothing.
 use mathlib.Core.Path.{sym, ap}
 use lib.Dec.{ltb}
+use borrow.Author.Needs.{needs}
 use Rattle.events.specs.declared.Answer.{Answer}
 use Rattle.events.specs.Answer.{numbers}
-use borrow.Author.Needs.{needs}
 use Rattle.events.proofs.refuses.Statement.{statement}
 use Rattle.events.proofs.refuses.Tie as tie
 

@@ -1,11 +1,10 @@
 -- `events::event::chain_size` meets its contract. The invariant is `Sizing`, which a hop keeps.
 -- Assumes nothing.
--- the next event of the chain is in the list
+use Prim.Native.Nat.{_<_, _+_, _-_, _/_}
 use native.Mathlib.Omega.{arith}
-use borrow.Author.Needs.{needs}
-use Prim.Native.Nat.{ℕ, _<_, _+_, _-_, _/_}
 use mathlib.Core.Path.{_∙_, ap}
 use lib.ListN.{length}
+use borrow.Author.Needs.{needs}
 use Rattle.events.specs.Event.{eventsOf, distance}
 use Rattle.events.specs.Shape.{cost}
 use Rattle.events.proofs.Encoding.{length-events}
@@ -20,6 +19,7 @@ Inv-loop words i d p₀ q₀ size₀ p q size = Sizing (eventsOf words) i d p q 
 abbrev μ-loop : tie.MeasureT-loop
 μ-loop words i d p₀ q₀ size₀ p q size = length words - p
 
+-- the next event of the chain is in the list
 next : (c : tie.In-loop Inv-loop μ-loop) → c .before .loop .p + c .before .loop .q < length (c .before .before .before .args .words .now) / 2
 next c = omega (arith, hops-on _ _ _ _ _ _ (c .before .loop .inv) (c .loop-test .taken) .inside, length-events (c .before .before .before .args .words .now))
 

@@ -3,8 +3,8 @@
 use native.Mathlib.Omega.{arith}
 use mathlib.Core.Path.{_∙_}
 use lib.ListN.{length-set}
-use Rattle.events.proofs.Encoding.{event-set, tomb-event}
 use borrow.Author.Needs.{needs}
+use Rattle.events.proofs.Encoding.{event-set, tomb-event}
 use Rattle.events.proofs.event.clear.Statement.{statement}
 use Rattle.events.proofs.event.clear.Tie as tie
 

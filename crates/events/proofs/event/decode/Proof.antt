@@ -1,8 +1,8 @@
 -- `events::event::decode` meets its contract: each return rewrites with the tests on the way there.
 -- Assumes nothing.
 use borrow.Author.Tests.{eq-eqb, ne-eqb, le-leb, lt-leb, lt-ltb, le-ltb}
-use Rattle.events.specs.Event.{decode}
 use borrow.Author.Needs.{needs}
+use Rattle.events.specs.Event.{decode}
 use Rattle.events.proofs.event.decode.Statement.{statement}
 use Rattle.events.proofs.event.decode.Tie as tie
 

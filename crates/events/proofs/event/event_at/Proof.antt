@@ -1,8 +1,8 @@
 -- `events::event::event_at` meets its contract: event i stands in the words 2i and 2i + 1.
 -- Assumes nothing.
 use mathlib.Core.Path.{_∙_}
-use Rattle.events.proofs.Encoding.{event-index}
 use borrow.Author.Needs.{needs}
+use Rattle.events.proofs.Encoding.{event-index}
 use Rattle.events.proofs.event.event_at.Statement.{statement}
 use Rattle.events.proofs.event.event_at.Tie as tie
 

@@ -1,11 +1,11 @@
 -- `events::event::needed` meets its contract. The invariant: the sum, with the need of what is left, is the need of the list.
 -- Assumes nothing.
-use native.Mathlib.Omega.{arith}
-use borrow.Author.Needs.{needs}
 use Prim.Native.Nat.{_≤_, _+_, _*_, _-_}
-use mathlib.Core.Path.{_≡_, _∙_, ap}
+use native.Mathlib.Omega.{arith}
 use native.Mathlib.Numerals.{add-one}
+use mathlib.Core.Path.{_≡_, _∙_, ap}
 use lib.ListN.{drop}
+use borrow.Author.Needs.{needs}
 use Rattle.events.specs.Event.{eventsOf}
 use Rattle.events.specs.Shape.{cost, need}
 use Rattle.events.proofs.Encoding.{length-events}

@@ -1,9 +1,9 @@
 -- `events::event::process` meets its contract. The invariant is `Running`, which a turn keeps.
 -- Assumes nothing.
+use Prim.Native.Nat.{_≤_, _-_, _/_}
 use native.Mathlib.Omega.{arith}
-use Prim.Native.Nat.{ℕ, _≤_, _<_, _-_, _/_}
-use mathlib.Core.Path.{_≡_, refl, sym, _∙_, ap}
 use native.Mathlib.Numerals.{add-one}
+use mathlib.Core.Path.{_≡_, refl, _∙_}
 use lib.ListN.{length}
 use Rattle.events.specs.Event.{eventsOf}
 use Rattle.events.specs.Process.{turns, file}

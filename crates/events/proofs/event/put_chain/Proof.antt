@@ -1,11 +1,10 @@
 -- `events::event::put_chain` meets its contract. The invariant is `Writing`, which a hop keeps.
 -- Assumes nothing.
--- the next event of the chain is in the list
+use Prim.Native.Nat.{_≤_, _<_, _+_, _-_, _/_}
 use native.Mathlib.Omega.{arith}
-use borrow.Author.Needs.{needs}
-use Prim.Native.Nat.{ℕ, _≤_, _<_, _+_, _-_, _/_}
 use mathlib.Core.Path.{_≡_, refl, _∙_, ap}
 use lib.ListN.{length, getD}
+use borrow.Author.Needs.{needs}
 use Rattle.events.specs.declared.event.Event.the-variants.{NoEvent}
 use Rattle.events.specs.Event.{eventsOf, distance}
 use Rattle.events.specs.Shape.{cost}
@@ -20,6 +19,7 @@ Inv-loop words₀ out₀ i d at size p₀ q₀ end₀ words out p q end = (lengt
 abbrev μ-loop : tie.MeasureT-loop
 μ-loop words₀ out₀ i d at size p₀ q₀ end₀ words out p q end = length words₀ - p
 
+-- the next event of the chain is in the list
 inside : (c : tie.In-loop Inv-loop μ-loop) → c .before .loop .p + c .before .loop .q < length (c .before .loop .words) / 2
 inside c = omega (arith, next _ _ _ _ _ _ _ _ _ _ (c .before .loop .inv .1) (c .loop-test .taken) .inside, length-events (c .before .loop .words))
 
@@ -49,7 +49,7 @@ event-at-requires : tie.Need-event-at-requires Inv-loop μ-loop
 event-at-requires c κs = inside (c .before)
 
 clear-requires : tie.Need-clear-requires Inv-loop μ-loop
-clear-requires c κs = inside (c .before .before .before)
+clear-requires c κs = omega (arith, inside (c .before .before .before))
 
 cost-requires : tie.Need-cost-requires Inv-loop μ-loop
 cost-requires c κs = search needs

@@ -1,15 +1,9 @@
 -- `events::event::put_own` meets its contract: the record of the event's own step, or nothing.
 -- Assumes nothing.
-use Prim.Native.Nat.{ℕ, _+_, _≤_}
-use mathlib.Core.Path.{_≡_, _∙_, ap}
-use mathlib.Core.List.{List, [], _∷_}
-use lib.ListN.{length}
-use borrow.Author.Tests.{eq-eqb, ne-eqb}
-use Rattle.events.specs.declared.output.Step.{Step}
-use Rattle.events.specs.Output.{bytes, Wrote}
+use mathlib.Core.Path.{ap}
+use borrow.Author.Needs.{needs}
 use Rattle.events.specs.Shape.{own}
 use Rattle.events.proofs.Writes.{own-kind, own-none, wrote-no-step, wrote-step, room-step}
-use borrow.Author.Needs.{needs}
 use Rattle.events.proofs.event.put_own.Statement.{statement}
 use Rattle.events.proofs.event.put_own.Tie as tie
 

@@ -1,16 +1,16 @@
 -- `events::event::turn` meets its contract: the chain's steps and then the event's own, as `turned` has it.
 -- Assumes nothing.
--- the entry, and what is known where the event is cleared
 use native.Mathlib.Omega.{arith}
 use mathlib.Core.Path.{_∙_, ap}
+use borrow.Author.Needs.{needs}
 use Rattle.events.specs.Event.{eventsOf, distance}
 use Rattle.events.specs.Shape.{cost}
 use Rattle.events.proofs.Encoding.{length-events}
 use Rattle.events.proofs.Running.{Turning, chain-sound, turn-room, turn-wrote, turn-left}
-use borrow.Author.Needs.{needs}
 use Rattle.events.proofs.event.turn.Statement.{statement}
 use Rattle.events.proofs.event.turn.Tie as tie
 
+-- the entry, and what is known where the event is cleared
 abbrev entry : tie.After-clear → tie.Start
 entry c = c .before .before .before .before .before .before .before
 

@@ -1,8 +1,8 @@
 -- `events::output::put_head` meets its contract: two numbers, one behind the other.
 -- Assumes nothing.
 use native.Mathlib.Omega.{arith}
-use Rattle.events.proofs.Writes.{wrote-then}
 use borrow.Author.Needs.{needs}
+use Rattle.events.proofs.Writes.{wrote-then}
 use Rattle.events.proofs.output.put_head.Statement.{statement}
 use Rattle.events.proofs.output.put_head.Tie as tie
 

@@ -4,8 +4,8 @@ use native.Mathlib.Omega.{arith}
 use native.Mathlib.Numerals.{add-one}
 use lib.ListN.{length-set}
 use lib.Seq.{sets-eq}
-use Rattle.events.specs.Output.{le16}
 use borrow.Author.Needs.{needs}
+use Rattle.events.specs.Output.{le16}
 use Rattle.events.proofs.output.put_u16.Statement.{statement}
 use Rattle.events.proofs.output.put_u16.Tie as tie
 
