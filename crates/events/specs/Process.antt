@@ -70,7 +70,7 @@ pub record Run : Type 0 where
   pub left : List Event
   pub panics : Bool
 
--- the turn at event p, with es behind it
+-- The turn at event p, with es behind it: the `match` in `process`, which has no case for two words that say no event.
 unfoldable pub turn : ℕ → Event → List Event → Run
 turn p (Start k d) es =
     let f = follow (suc p) es d in
@@ -93,7 +93,7 @@ turns (suc n) p (e ∷ es) = andThen (turn p e es) (turns n (suc p) (turn p e es
 abbrev pub process : List Event → Run
 process es = turns (length es) 0 es
 
--- the chain from event i by distance d, and the turn at event i, in a list
+-- the chain from event i by distance d, and the turn at event i, of a whole list: for the contracts of the code inside
 abbrev pub chain : List Event → ℕ → ℕ → Followed
 chain es i d = follow (suc i) (drop (suc i) es) d
 
