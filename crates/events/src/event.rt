@@ -1,0 +1,217 @@
+// Events, and `process` of event.rs: their resolution into steps.
+use super::output::Step;
+use super::output::put;
+ghost use mathlib.Core.Path.{_≡_};
+ghost use mathlib.Core.Bool.{false};
+ghost use mathlib.Core.List.{_∷_, _++_};
+ghost use Prim.Native.Nat.{suc, _+_, _*_, _/_, _<_, _≤_};
+ghost use lib.ListN.{length, getD, take, set};
+ghost use Rattle.events.specs.Event.{decode, eventsOf, wordsOf, isStart, distance, tombstone};
+ghost use Rattle.events.specs.Output.{bytes, over, Wrote};
+ghost use Rattle.events.specs.Process.{chain, entered, turnAt, process, file};
+ghost use Rattle.events.specs.Shape.{own, cost, need};
+
+// An event: its kind and the distance to its forward parent, 0 for none; a kind and the raw count; a code and its argument.
+pub enum Event {
+    Start(u16, u32),
+    Finish,
+    Token(u16, u8),
+    Error(u16, u16),
+    // two words that say no event
+    NoEvent,
+}
+
+// The event that two words say.
+pub fn decode(a: u32, b: u32) -> Event
+    ensures { λ r. ⌜ r ≡ decode a b ⌝ }
+{
+    let t = a / 65536;
+    let k = (a % 65536) as u16;
+    if t == 1 {
+        return Event::Start(k, b);
+    }
+    if t == 2 {
+        if k == 0 {
+            if b == 0 {
+                return Event::Finish;
+            }
+        }
+        return Event::NoEvent;
+    }
+    if t == 3 {
+        if b == 0 {
+            return Event::NoEvent;
+        }
+        if b <= 3 {
+            return Event::Token(k, b as u8);
+        }
+        return Event::NoEvent;
+    }
+    if t == 4 {
+        if b < 65536 {
+            return Event::Error(k, b as u16);
+        }
+    }
+    Event::NoEvent
+}
+
+// Event i of a list.
+pub(crate) fn event_at(words: &[u32], i: usize) -> Event
+    requires { ⌜ i < length (now words) / 2 ⌝ }
+    ensures { λ r. ⌜ r ≡ getD (eventsOf (now (words .entry))) i Event.NoEvent ⌝ }
+{
+    decode(words[2 * i], words[2 * i + 1])
+}
+
+// Makes event i a bare tombstone.
+fn clear(words: &mut [u32], i: usize)
+    requires { ⌜ i < length (now words) / 2 ⌝ }
+    ensures { λ r. ⌜ eventsOf (now (words .exit)) ≡ set (eventsOf (now (words .entry))) i tombstone ⌝ }
+{
+    words[2 * i] = 65536;
+    words[2 * i + 1] = 0;
+}
+
+pub(crate) fn is_start(e: Event) -> bool
+    ensures { λ r. ⌜ r ≡ isStart e ⌝ }
+{
+    match e {
+        Event::Start(_, _) => true,
+        Event::Finish => false,
+        Event::Token(_, _) => false,
+        Event::Error(_, _) => false,
+        Event::NoEvent => false,
+    }
+}
+
+fn distance(e: Event) -> u32
+    ensures { λ r. ⌜ r ≡ distance e ⌝ }
+{
+    match e {
+        Event::Start(_, d) => d,
+        Event::Finish => 0,
+        Event::Token(_, _) => 0,
+        Event::Error(_, _) => 0,
+        Event::NoEvent => 0,
+    }
+}
+
+// The bytes of what an event asks for itself: no chain comes into it.
+fn cost(e: Event) -> usize
+    ensures { λ r. ⌜ r ≡ cost e ⌝ }
+{
+    match e {
+        Event::Start(k, _) => if k == 0 { 0 } else { 6 },
+        Event::Finish => 4,
+        Event::Token(_, _) => 7,
+        Event::Error(_, _) => 8,
+        Event::NoEvent => 0,
+    }
+}
+
+// Writes what an event asks for itself.
+fn put_own(out: &mut [u8], at: usize, e: Event) -> usize
+    requires { ⌜ at + cost e ≤ length (now out) ⌝ }
+    ensures { λ r. ⌜ Wrote (now (out .entry)) at (bytes (own e)) r (now (out .exit)) ⌝ }
+{
+    match e {
+        Event::Start(k, _) => {
+            if k == 0 {
+                return at;
+            }
+            put(out, at, Step::Enter(k))
+        }
+        Event::Finish => put(out, at, Step::Leave),
+        Event::Token(k, n) => put(out, at, Step::Token(k, n)),
+        Event::Error(c, x) => put(out, at, Step::Error(c, x)),
+        Event::NoEvent => at,
+    }
+}
+
+// The bytes that the steps of a list take: each event's own, since each is asked for once.
+pub(crate) fn needed(words: &[u32]) -> usize
+    ensures { λ r. ⌜ r ≡ need (eventsOf (now (words .entry))) ⌝ }
+{
+    let n = words.len() / 2;
+    let mut i = 0;
+    let mut sum = 0;
+    while i < n {
+        sum += cost(event_at(words, i));
+        i += 1;
+    }
+    sum
+}
+
+// The bytes of the enters that distance d from event i leads to.
+fn chain_size(words: &[u32], i: usize, d: u32) -> usize
+    requires { ⌜ i < length (now words) / 2 ⌝ }
+    requires { ⌜ chain (eventsOf (now words)) i d .panics ≡ false ⌝ }
+    ensures { λ r. ⌜ r ≡ length (file (entered (chain (eventsOf (now (words .entry))) i d .parents))) ⌝ }
+{
+    let mut p = i;
+    let mut q = d;
+    let mut size = 0;
+    while q != 0 {
+        p += q as usize;
+        let e = event_at(words, p);
+        size += cost(e);
+        q = distance(e);
+    }
+    size
+}
+
+// Writes those enters, the first met last: from the end of their bytes to the front. Each visited start becomes a tombstone.
+fn put_chain(words: &mut [u32], out: &mut [u8], i: usize, d: u32, at: usize, size: usize)
+    requires { ⌜ i < length (now words) / 2 ⌝ }
+    requires { ⌜ chain (eventsOf (now words)) i d .panics ≡ false ⌝ }
+    requires { ⌜ size ≡ length (file (entered (chain (eventsOf (now words)) i d .parents))) ⌝ }
+    requires { ⌜ at + size ≤ length (now out) ⌝ }
+    ensures { λ r. ⌜ eventsOf (now (words .exit)) ≡ take (suc i) (eventsOf (now (words .entry))) ++ chain (eventsOf (now (words .entry))) i d .left ⌝ }
+    ensures { λ r. ⌜ now (out .exit) ≡ over (now (out .entry)) at (file (entered (chain (eventsOf (now (words .entry))) i d .parents))) ⌝ }
+{
+    let mut p = i;
+    let mut q = d;
+    let mut end = at + size;
+    while q != 0 {
+        p += q as usize;
+        let e = event_at(words, p);
+        clear(words, p);
+        end -= cost(e);
+        put_own(out, end, e);
+        q = distance(e);
+    }
+}
+
+// The turn at event i: its steps at a place, and the place past them.
+fn turn(words: &mut [u32], out: &mut [u8], i: usize, at: usize) -> usize
+    requires { ⌜ i < length (now words) / 2 ⌝ }
+    requires { ⌜ turnAt (eventsOf (now words)) i .panics ≡ false ⌝ }
+    requires { ⌜ at + length (file (turnAt (eventsOf (now words)) i .steps)) ≤ length (now out) ⌝ }
+    ensures { λ r. ⌜ Wrote (now (out .entry)) at (file (turnAt (eventsOf (now (words .entry))) i .steps)) r (now (out .exit)) ⌝ }
+    ensures { λ r. ⌜ eventsOf (now (words .exit)) ≡ take i (eventsOf (now (words .entry))) ++ tombstone ∷ turnAt (eventsOf (now (words .entry))) i .left ⌝ }
+{
+    let e = event_at(words, i);
+    let d = distance(e);
+    clear(words, i);
+    let size = chain_size(words, i, d);
+    put_chain(words, out, i, d, at, size);
+    put_own(out, at + size, e)
+}
+
+// Resolves a list that passes the check into a room that holds its step file; the bytes of the file.
+pub(crate) fn process(words: &mut [u32], out: &mut [u8]) -> usize
+    requires { ⌜ length (now words) ≡ 2 * (length (now words) / 2) ⌝ }
+    requires { ⌜ process (eventsOf (now words)) .panics ≡ false ⌝ }
+    requires { ⌜ length (file (process (eventsOf (now words)) .steps)) ≤ length (now out) ⌝ }
+    ensures { λ r. ⌜ Wrote (now (out .entry)) 0 (file (process (eventsOf (now (words .entry))) .steps)) r (now (out .exit)) ⌝ }
+    ensures { λ r. ⌜ now (words .exit) ≡ wordsOf (process (eventsOf (now (words .entry))) .left) ⌝ }
+{
+    let n = words.len() / 2;
+    let mut i = 0;
+    let mut at = 0;
+    while i < n {
+        at = turn(words, out, i, at);
+        i += 1;
+    }
+    at
+}
