@@ -1,4 +1,4 @@
--- What a call says: document 01's number and place for each case of an answer.
+-- What a call says: the number and place of docs/RULES.md, section 3, for each case of an answer.
 use Prim.Native.Nat.{ℕ}
 use Rattle.events.specs.declared.Answer.{Answer}
 use Rattle.events.specs.declared.Answer.the-variants.{Done, TooLong, Faulty, NoRoom}

@@ -1,4 +1,4 @@
--- An event in two words (document 01, "Numbers and rooms"), and a list of them.
+-- An event in two words (docs/RULES.md, section 2), and a list of them.
 use Prim.Native.Nat.{ℕ, _+_, _/_, _%_}
 use mathlib.Core.Bool.{Bool, true, false, cond}
 use mathlib.Core.List.{List, [], _∷_, _++_}

@@ -1,4 +1,4 @@
--- Step files (document 01, "Step files"; the steps are those of output.rs).
+-- Step files (docs/RULES.md, section 7; the steps are those of output.rs).
 use Prim.Native.Nat.{ℕ, _+_, _/_, _%_}
 use mathlib.Core.Path.{_≡_}
 use mathlib.Core.List.{List, [], _∷_, _++_}

@@ -1,4 +1,4 @@
-// Lists of events as lines of text, and their steps as lines: the listing of document 01.
+// Lists of events as lines of text, and their steps as lines: the listing of docs/RULES.md, section 9.
 mod read;
 mod show;
 

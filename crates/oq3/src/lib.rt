@@ -1,4 +1,4 @@
-// The public calls for C and Rust. A slice passes as a pointer and a length. A call returns document 01's number and writes its
+// The public calls for C and Rust. A slice passes as a pointer and a length. A call returns the number of docs/RULES.md and writes its
 // place to the first word of a lent answer room; where that room has no word it returns 100, and reads and writes nothing.
 ghost use mathlib.Core.Path.{_≡_};
 ghost use mathlib.Core.List.{[]};
