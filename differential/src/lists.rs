@@ -1,7 +1,7 @@
 //! Lists of events: the well-formedness of docs/RULES.md, and generators.
 
 use crate::rng::Rng;
-use answer::Ev;
+use answer::{write_step, Ev, Step};
 
 /// The events of words, or none where they are not all events.
 pub fn events(words: &[u32]) -> Option<Vec<Ev>> {
@@ -53,6 +53,33 @@ pub fn check(words: &[u32]) -> Result<usize, (u8, usize)> {
         return Err((9, count));
     }
     Ok(count)
+}
+
+/// The step file of a list that passes the check, as the rules have resolution.
+pub fn steps(words: &[u32]) -> Vec<u8> {
+    let mut list = events(words).expect("events");
+    let mut file = Vec::new();
+    for i in 0..list.len() {
+        match list[i] {
+            Ev::Start(..) => {
+                let (mut at, mut collected) = (i, Vec::new());
+                while let Ev::Start(kind, distance) = std::mem::replace(&mut list[at], Ev::Start(0, 0)) {
+                    collected.push(kind);
+                    if distance == 0 {
+                        break;
+                    }
+                    at += distance as usize;
+                }
+                for kind in collected.into_iter().rev().filter(|&kind| kind != 0) {
+                    write_step(&mut file, Step::Enter(kind));
+                }
+            }
+            Ev::Finish => write_step(&mut file, Step::Leave),
+            Ev::Token(kind, raw) => write_step(&mut file, Step::Token(kind, raw)),
+            Ev::Error(code, argument) => write_step(&mut file, Step::Error(code, argument)),
+        }
+    }
+    file
 }
 
 /// A list as a parser makes it: starts are completed, abandoned, preceded and extended.

@@ -1,0 +1,27 @@
+//! The port's static library behind safe functions. Nothing holds the declarations to the library: they are the exported functions of
+//! crates/oq3/src/lib.rt, and a slice is a pointer and a length.
+
+#[link(name = "oq3", kind = "static")]
+extern "C" {
+    fn oq3_check(words: *const u32, words_length: usize, answer: *mut u64, answer_length: usize) -> u32;
+    fn oq3_resolve(
+        words: *mut u32,
+        words_length: usize,
+        steps: *mut u8,
+        steps_length: usize,
+        answer: *mut u64,
+        answer_length: usize,
+    ) -> u32;
+}
+
+/// The list check: its number. The place is the first word of `answer`; where that has none, 100 is said and nothing is done.
+pub fn check(words: &[u32], answer: &mut [u64]) -> u32 {
+    // SAFETY: the slices are valid for the call and do not overlap, and the library reads and writes within them.
+    unsafe { oq3_check(words.as_ptr(), words.len(), answer.as_mut_ptr(), answer.len()) }
+}
+
+/// Resolution: its number, and the place as in `check`.
+pub fn resolve(words: &mut [u32], steps: &mut [u8], answer: &mut [u64]) -> u32 {
+    // SAFETY: as in `check`.
+    unsafe { oq3_resolve(words.as_mut_ptr(), words.len(), steps.as_mut_ptr(), steps.len(), answer.as_mut_ptr(), answer.len()) }
+}
