@@ -26,7 +26,7 @@ no-bit ws i h = rw (List·getD-eq-default ws 0 h, zero-div (2 ^ (i % 64)))
 abbrev pub both : Bool → Bool → Bool
 both a b = pick a b false
 
-both-parts : (a b : Bool) → T (both a b) → T a × T b
+pub both-parts : (a b : Bool) → T (both a b) → T a × T b
 both-parts true b t = (tt, t)
 both-parts false b t = absurd t
 
