@@ -151,7 +151,15 @@ fn first_of_two(kinds: &[u16], joints: &[u64], p: Parser, a: u16, b: u16, plain:
     plain
 }
 
-fn first_of_three(kinds: &[u16], joints: &[u64], p: Parser, a: u16, b: u16, c: u16, plain: u16) -> u16
+fn first_of_three(
+    kinds: &[u16],
+    joints: &[u64],
+    p: Parser,
+    a: u16,
+    b: u16,
+    c: u16,
+    plain: u16,
+) -> u16
     requires { ⌜ Fit p ⌝ }
     ensures { λ r. ⌜ Peeks (env (now (kinds .entry)) (now (joints .entry))) (acts.firstAt (a ∷ b ∷ c ∷ []) plain) p r p ⌝ }
 {
