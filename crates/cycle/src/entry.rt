@@ -7,6 +7,7 @@ use kinds::messages as say;
 use kinds::syntax_kind_enum as k;
 use runtime::parser::Parser;
 ghost use mathlib.Core.Path.{_≡_};
+ghost use mathlib.Core.Bool.{false};
 ghost use Rattle.runtime.specs.Input.{env};
 ghost use Rattle.runtime.specs.State.{view, Fit};
 ghost use Rattle.runtime.specs.Acts.{Does};

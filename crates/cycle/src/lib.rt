@@ -30,7 +30,7 @@ ghost use Rattle.grammar.specs.Operators.{tableOf};
 ghost use Rattle.grammar.specs.Grammar as G;
 ghost use Rattle.grammar.specs.Expressions as E;
 ghost use Rattle.grammar.specs.Params as P;
-ghost use Rattle.grammar.specs.Atom as A;
+ghost use Rattle.grammar.specs.Atom as atoms;
 ghost use Rattle.grammar.specs.Items as I;
 ghost use Rattle.grammar.specs.Entry.{counted, later};
 
@@ -544,7 +544,7 @@ fn qarg(
 // atom_expr
 fn atom(kinds: &[u16], joints: &[u64], room: &mut [u32], p: Parser, mode: u8, left: u32) -> Parsed
     requires { ⌜ Fit p ⌝ }
-    ensures { λ r. ⌜ Does (env (now (kinds .entry)) (now (joints .entry))) (A.atomExpr (counted (tableOf mode) left)) (view p (now (room .entry))) (r .got) (view (r .p) (now (room .exit))) ⌝ }
+    ensures { λ r. ⌜ Does (env (now (kinds .entry)) (now (joints .entry))) (atoms.atomExpr (counted (tableOf mode) left)) (view p (now (room .entry))) (r .got) (view (r .p) (now (room .exit))) ⌝ }
 {
     let g = atom::literal(kinds, joints, room, p);
     let p1 = g.p;
@@ -636,7 +636,34 @@ fn atom(kinds: &[u16], joints: &[u64], room: &mut [u32], p: Parser, mode: u8, le
                 got: Got::Is(cm, cm.kind == k::BLOCK_EXPR),
             };
         }
-        k::INV_KW | k::POW_KW | k::CTRL_KW | k::NEGCTRL_KW => {
+        k::INV_KW => {
+            let d = mods(kinds, joints, room, p3, mode, left);
+            let q = d.p;
+            let cm = d.cm;
+            return Parsed {
+                p: q,
+                got: Got::Is(cm, cm.kind == k::BLOCK_EXPR),
+            };
+        }
+        k::POW_KW => {
+            let d = mods(kinds, joints, room, p3, mode, left);
+            let q = d.p;
+            let cm = d.cm;
+            return Parsed {
+                p: q,
+                got: Got::Is(cm, cm.kind == k::BLOCK_EXPR),
+            };
+        }
+        k::CTRL_KW => {
+            let d = mods(kinds, joints, room, p3, mode, left);
+            let q = d.p;
+            let cm = d.cm;
+            return Parsed {
+                p: q,
+                got: Got::Is(cm, cm.kind == k::BLOCK_EXPR),
+            };
+        }
+        k::NEGCTRL_KW => {
             let d = mods(kinds, joints, room, p3, mode, left);
             let q = d.p;
             let cm = d.cm;
@@ -685,7 +712,7 @@ fn atom(kinds: &[u16], joints: &[u64], room: &mut [u32], p: Parser, mode: u8, le
 // cast_expr
 fn cast(kinds: &[u16], joints: &[u64], room: &mut [u32], p: Parser, mode: u8, left: u32) -> Done
     requires { ⌜ Fit p ⌝ }
-    ensures { λ r. ⌜ Does (env (now (kinds .entry)) (now (joints .entry))) (A.castExpr (counted (tableOf mode) left)) (view p (now (room .entry))) (r .cm) (view (r .p) (now (room .exit))) ⌝ }
+    ensures { λ r. ⌜ Does (env (now (kinds .entry)) (now (joints .entry))) (atoms.castExpr (counted (tableOf mode) left)) (view p (now (room .entry))) (r .cm) (view (r .p) (now (room .exit))) ⌝ }
 {
     let s = p.start(room);
     let p1 = s.p;
@@ -702,7 +729,7 @@ fn cast(kinds: &[u16], joints: &[u64], room: &mut [u32], p: Parser, mode: u8, le
 // gphase_call_expr
 fn gph(kinds: &[u16], joints: &[u64], room: &mut [u32], p: Parser, mode: u8, left: u32) -> Done
     requires { ⌜ Fit p ⌝ }
-    ensures { λ r. ⌜ Does (env (now (kinds .entry)) (now (joints .entry))) (A.gphaseCallExpr (counted (tableOf mode) left)) (view p (now (room .entry))) (r .cm) (view (r .p) (now (room .exit))) ⌝ }
+    ensures { λ r. ⌜ Does (env (now (kinds .entry)) (now (joints .entry))) (atoms.gphaseCallExpr (counted (tableOf mode) left)) (view p (now (room .entry))) (r .cm) (view (r .p) (now (room .exit))) ⌝ }
 {
     let p1 = p.must(kinds, joints, room, k::GPHASE_KW);
     let s = p1.start(room);
@@ -716,7 +743,7 @@ fn gph(kinds: &[u16], joints: &[u64], room: &mut [u32], p: Parser, mode: u8, lef
 // measure_expression
 fn meas(kinds: &[u16], joints: &[u64], room: &mut [u32], p: Parser, mode: u8, left: u32) -> Done
     requires { ⌜ Fit p ⌝ }
-    ensures { λ r. ⌜ Does (env (now (kinds .entry)) (now (joints .entry))) (A.measureExpression (counted (tableOf mode) left)) (view p (now (room .entry))) (r .cm) (view (r .p) (now (room .exit))) ⌝ }
+    ensures { λ r. ⌜ Does (env (now (kinds .entry)) (now (joints .entry))) (atoms.measureExpression (counted (tableOf mode) left)) (view p (now (room .entry))) (r .cm) (view (r .p) (now (room .exit))) ⌝ }
 {
     let s = p.start(room);
     let p1 = s.p;
@@ -737,7 +764,7 @@ fn meas(kinds: &[u16], joints: &[u64], room: &mut [u32], p: Parser, mode: u8, le
 // return_expr
 fn ret(kinds: &[u16], joints: &[u64], room: &mut [u32], p: Parser, mode: u8, left: u32) -> Done
     requires { ⌜ Fit p ⌝ }
-    ensures { λ r. ⌜ Does (env (now (kinds .entry)) (now (joints .entry))) (A.returnExpr (counted (tableOf mode) left)) (view p (now (room .entry))) (r .cm) (view (r .p) (now (room .exit))) ⌝ }
+    ensures { λ r. ⌜ Does (env (now (kinds .entry)) (now (joints .entry))) (atoms.returnExpr (counted (tableOf mode) left)) (view p (now (room .entry))) (r .cm) (view (r .p) (now (room .exit))) ⌝ }
 {
     let p1 = p.must(kinds, joints, room, k::RETURN_KW);
     let s = p1.start(room);
@@ -756,7 +783,7 @@ fn ret(kinds: &[u16], joints: &[u64], room: &mut [u32], p: Parser, mode: u8, lef
 // box_expr
 fn bx(kinds: &[u16], joints: &[u64], room: &mut [u32], p: Parser, mode: u8, left: u32) -> Done
     requires { ⌜ Fit p ⌝ }
-    ensures { λ r. ⌜ Does (env (now (kinds .entry)) (now (joints .entry))) (A.boxExpr (counted (tableOf mode) left)) (view p (now (room .entry))) (r .cm) (view (r .p) (now (room .exit))) ⌝ }
+    ensures { λ r. ⌜ Does (env (now (kinds .entry)) (now (joints .entry))) (atoms.boxExpr (counted (tableOf mode) left)) (view p (now (room .entry))) (r .cm) (view (r .p) (now (room .exit))) ⌝ }
 {
     let p1 = p.must(kinds, joints, room, k::BOX_KW);
     let s = p1.start(room);
@@ -775,7 +802,7 @@ fn bx(kinds: &[u16], joints: &[u64], room: &mut [u32], p: Parser, mode: u8, left
 // gate_call_expr
 fn gate(kinds: &[u16], joints: &[u64], room: &mut [u32], p: Parser, mode: u8, left: u32) -> Done
     requires { ⌜ Fit p ⌝ }
-    ensures { λ r. ⌜ Does (env (now (kinds .entry)) (now (joints .entry))) (A.gateCallExpr (counted (tableOf mode) left)) (view p (now (room .entry))) (r .cm) (view (r .p) (now (room .exit))) ⌝ }
+    ensures { λ r. ⌜ Does (env (now (kinds .entry)) (now (joints .entry))) (atoms.gateCallExpr (counted (tableOf mode) left)) (view p (now (room .entry))) (r .cm) (view (r .p) (now (room .exit))) ⌝ }
 {
     let s = p.start(room);
     let p1 = s.p;
@@ -809,7 +836,7 @@ fn gate(kinds: &[u16], joints: &[u64], room: &mut [u32], p: Parser, mode: u8, le
 // modified_gate_call_expr
 fn mods(kinds: &[u16], joints: &[u64], room: &mut [u32], p: Parser, mode: u8, left: u32) -> Done
     requires { ⌜ Fit p ⌝ }
-    ensures { λ r. ⌜ Does (env (now (kinds .entry)) (now (joints .entry))) (A.modifiedGateCallExpr (counted (tableOf mode) left)) (view p (now (room .entry))) (r .cm) (view (r .p) (now (room .exit))) ⌝ }
+    ensures { λ r. ⌜ Does (env (now (kinds .entry)) (now (joints .entry))) (atoms.modifiedGateCallExpr (counted (tableOf mode) left)) (view p (now (room .entry))) (r .cm) (view (r .p) (now (room .exit))) ⌝ }
 {
     let s = p.start(room);
     let m = s.m;
@@ -884,7 +911,7 @@ fn ctl(
     node: u16,
 ) -> Parser
     requires { ⌜ Fit p ⌝ }
-    ensures { λ r. ⌜ Does (env (now (kinds .entry)) (now (joints .entry))) (A.modifier (counted (tableOf mode) left) kw node) (view p (now (room .entry))) tt (view r (now (room .exit))) ⌝ }
+    ensures { λ r. ⌜ Does (env (now (kinds .entry)) (now (joints .entry))) (atoms.modifier (counted (tableOf mode) left) kw node) (view p (now (room .entry))) tt (view r (now (room .exit))) ⌝ }
 {
     let s1 = p.start(room);
     let p1 = s1.p;
@@ -917,7 +944,7 @@ fn ctl(
 // tuple_expr
 fn tup(kinds: &[u16], joints: &[u64], room: &mut [u32], p: Parser, mode: u8, left: u32) -> Done
     requires { ⌜ Fit p ⌝ }
-    ensures { λ r. ⌜ Does (env (now (kinds .entry)) (now (joints .entry))) (A.tupleExpr (counted (tableOf mode) left)) (view p (now (room .entry))) (r .cm) (view (r .p) (now (room .exit))) ⌝ }
+    ensures { λ r. ⌜ Does (env (now (kinds .entry)) (now (joints .entry))) (atoms.tupleExpr (counted (tableOf mode) left)) (view p (now (room .entry))) (r .cm) (view (r .p) (now (room .exit))) ⌝ }
 {
     let p1 = p.must(kinds, joints, room, k::L_PAREN);
     let s = p1.start(room);
@@ -947,7 +974,7 @@ fn tup(kinds: &[u16], joints: &[u64], room: &mut [u32], p: Parser, mode: u8, lef
 // array_expr
 fn arr(kinds: &[u16], joints: &[u64], room: &mut [u32], p: Parser, mode: u8, left: u32) -> Done
     requires { ⌜ Fit p ⌝ }
-    ensures { λ r. ⌜ Does (env (now (kinds .entry)) (now (joints .entry))) (A.arrayExpr (counted (tableOf mode) left)) (view p (now (room .entry))) (r .cm) (view (r .p) (now (room .exit))) ⌝ }
+    ensures { λ r. ⌜ Does (env (now (kinds .entry)) (now (joints .entry))) (atoms.arrayExpr (counted (tableOf mode) left)) (view p (now (room .entry))) (r .cm) (view (r .p) (now (room .exit))) ⌝ }
 {
     let p1 = p.must(kinds, joints, room, k::L_BRACK);
     let s = p1.start(room);
@@ -987,7 +1014,7 @@ fn arr(kinds: &[u16], joints: &[u64], room: &mut [u32], p: Parser, mode: u8, lef
 // block_expr
 fn blk(kinds: &[u16], joints: &[u64], room: &mut [u32], p: Parser, mode: u8, left: u32) -> Done
     requires { ⌜ Fit p ⌝ }
-    ensures { λ r. ⌜ Does (env (now (kinds .entry)) (now (joints .entry))) (A.blockExpr (counted (tableOf mode) left)) (view p (now (room .entry))) (r .cm) (view (r .p) (now (room .exit))) ⌝ }
+    ensures { λ r. ⌜ Does (env (now (kinds .entry)) (now (joints .entry))) (atoms.blockExpr (counted (tableOf mode) left)) (view p (now (room .entry))) (r .cm) (view (r .p) (now (room .exit))) ⌝ }
 {
     let p1 = p.must(kinds, joints, room, k::L_CURLY);
     let s = p1.start(room);
@@ -1002,7 +1029,7 @@ fn blk(kinds: &[u16], joints: &[u64], room: &mut [u32], p: Parser, mode: u8, lef
 // try_block_expr
 fn body(kinds: &[u16], joints: &[u64], room: &mut [u32], p: Parser, mode: u8, left: u32) -> Parser
     requires { ⌜ Fit p ⌝ }
-    ensures { λ r. ⌜ Does (env (now (kinds .entry)) (now (joints .entry))) (A.tryBlockExpr (counted (tableOf mode) left)) (view p (now (room .entry))) tt (view r (now (room .exit))) ⌝ }
+    ensures { λ r. ⌜ Does (env (now (kinds .entry)) (now (joints .entry))) (atoms.tryBlockExpr (counted (tableOf mode) left)) (view p (now (room .entry))) tt (view r (now (room .exit))) ⌝ }
 {
     if p.at(kinds, joints, k::L_CURLY) {
         let d = blk(kinds, joints, room, p, mode, left);
@@ -1772,7 +1799,18 @@ fn opt(
             let p8 = d.p;
             return Told { p: p8, yes: true };
         }
-        k::INPUT_KW | k::OUTPUT_KW => {
+        k::INPUT_KW => {
+            let p4 = p3.bump_any(kinds, joints, room);
+            let p5 = items::io_type(kinds, joints, room, p4);
+            let p6 = type_spec(kinds, joints, room, p5, mode, left);
+            let p7 = expressions::var_name(kinds, joints, room, p6);
+            let t = p7.expect(kinds, joints, room, k::SEMICOLON);
+            let p8 = t.p;
+            let d = p8.complete(room, m, k::I_O_DECLARATION_STATEMENT);
+            let p9 = d.p;
+            return Told { p: p9, yes: true };
+        }
+        k::OUTPUT_KW => {
             let p4 = p3.bump_any(kinds, joints, room);
             let p5 = items::io_type(kinds, joints, room, p4);
             let p6 = type_spec(kinds, joints, room, p5, mode, left);

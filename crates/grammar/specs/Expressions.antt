@@ -131,7 +131,7 @@ varName = do
 
 module _ (deeper : Counted) where
   -- fn expr, line 14: whether the expression is block-like is not read by its callers
-  unfoldable pub expr : Acts Got
+  abbrev pub expr : Acts Got
   expr = deeper .exprBp Fresh false 1
 
   -- fn range_expr, line 20: no caller reads its answer
@@ -168,7 +168,7 @@ module _ (deeper : Counted) where
       just (complete m RANGE-EXPR)) (abandon m)
 
   -- fn expr_stmt, line 58
-  unfoldable pub exprStmt : Mark → Acts Got
+  abbrev pub exprStmt : Mark → Acts Got
   exprStmt m = deeper .exprBp m true 1
 
   -- fn let_stmt, line 125
@@ -300,15 +300,14 @@ module _ (deeper : Counted) where
     indexOperator
     complete m INDEX-EXPR
 
-  -- fn indexed_identifier, line 504: a round of its loop, and the whole. Where `[` stands the tokens have not ended.
+  -- fn indexed_identifier, line 504: a round of its loop, and the whole. Its `&& !p.at(EOF)` decides nothing: where `[` stands the
+  -- tokens have not ended.
   unfoldable pub indexedIdentifierRound : Unit {0} → Acts (Turn (Unit {0}))
   indexedIdentifierRound x = do
     b ← at L-BRACK
     pick b (do
-      end ← at EOF
-      pick end (done (last tt)) (do
-        indexOperator
-        done (more tt))) (done (last tt))
+      indexOperator
+      done (more tt)) (done (last tt))
 
   unfoldable pub indexedIdentifier : Completed → Acts Completed
   indexedIdentifier lhs = do

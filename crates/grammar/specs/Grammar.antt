@@ -65,7 +65,7 @@ nameR recovery = do
         just (complete m NAME)) (errRecover EXPECTED-A-NAME recovery))
 
 -- fn name, line 150
-unfoldable pub name : Acts (Unit {0})
+abbrev pub name : Acts (Unit {0})
 name = nameR EMPTY
 
 -- fn delimited, line 156: after an element, whether another one is to follow; a round of its loop; and the whole. The loop's two
