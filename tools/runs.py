@@ -147,8 +147,8 @@ def pick_fn(fns, field, place, crate):
 
 def enum_arm(lts_text, place):
     """whether a place is where an arm takes an enum's value apart"""
-    m = re.search(r"pub record %s·own : Type 0 where\s*pub given : (s\d+) \.gives" % re.escape(place), lts_text)
-    return bool(m and re.search(r"^\s*%s =\s*Known\.k-enum-known" % m.group(1), lts_text, re.M))
+    m = re.search(r"pub record %s·own : Type 0 where\s*pub given : (s\d+)\b" % re.escape(place), lts_text)
+    return bool(m and re.search(r"^\s*%s =\s*(?:λ \w+\.\s*)?Known\.k-enum-known" % m.group(1), lts_text, re.M))
 
 
 def steps(found, lts_text, fns, crate):
@@ -182,7 +182,7 @@ def steps(found, lts_text, fns, crate):
     return out
 
 
-FACT = {"true": "{}", "false": "{}", "eq": "{}", "ne": "ne-eqb _ _ ({})", "lt": "lt-ltb _ _ ({})", "le": "le-ltb _ _ ({})"}
+FACT = {"true": "{}", "false": "{}", "eq": "eq-eqb _ _ ({})", "ne": "ne-eqb _ _ ({})", "lt": "lt-ltb _ _ ({})", "le": "le-ltb _ _ ({})"}
 
 
 class Chain:
@@ -232,7 +232,11 @@ class Chain:
         return self.text + text + ")" * self.close
 
 
-def chain(me, path, fit, ret, tail_ok=True, skip=()):
+FLAT = "simp (assoc, pick-bind, done-bind)"
+
+
+def chain(me, path, fit, ret, tail_ok=True, skip=(), flat=()):
+    """flat: 'key' or 'match' where the arms of a match are to be flattened, each where more than one call follows"""
     c = Chain(me, skip)
     runs = [k for k, s in enumerate(path) if s[0] == "call" and s[2].form in RUNS]
     last = runs[-1] if runs else -1
@@ -245,6 +249,8 @@ def chain(me, path, fit, ret, tail_ok=True, skip=()):
                 body = {"Does": "%s .ensures", "Steps": "any _ _ _ (%s .ensures)", "Peeks": "peeks _ _ _ _ (%s .ensures)"}
                 return c.end(body[s[2].form] % s[1])
         c.add(s)
+        if {"key": "key", "told": "match"}.get(s[0]) in flat and len([r for r in runs if r > k]) > 1:
+            c.open(FLAT)
     c.flush()
     return c.end("ends _ _ _ (%s)" % fit)
 

@@ -373,10 +373,11 @@ module _ (deeper : Counted) where
   unfoldable pub sourceFileContentsRound : Bool → Unit {0} → Acts (Turn (Unit {0}))
   sourceFileContentsRound stopOnRCurly x = do
     end ← at EOF
-    b ← at R-CURLY
-    pick (end || (b && stopOnRCurly)) (done (last tt)) (do
-      item stopOnRCurly
-      done (more tt))
+    pick end (done (last tt)) (do
+      b ← at R-CURLY
+      pick (stopOnRCurly && b) (done (last tt)) (do
+        item stopOnRCurly
+        done (more tt)))
 
   unfoldable pub sourceFileContents : Bool → Acts (Unit {0})
   sourceFileContents stopOnRCurly = repeats (sourceFileContentsRound stopOnRCurly) tt
