@@ -169,10 +169,10 @@ impl Parser {
         }
     }
 
-    // Writes one event, where the room holds it, and then stands at `pos`, `since` lookups after the last token.
-    fn push_at(self, room: &mut [u32], first: u32, second: u32, pos: usize, since: u32) -> Parser
+    // Writes one event, where the room holds it.
+    fn push_event(self, room: &mut [u32], first: u32, second: u32) -> Parser
         requires { ⌜ Fit self ⌝ }
-        ensures { λ r. ⌜ view r (now (room .exit)) ≡ state.pushAt (decode first second) pos since (view self (now (room .entry))) ⌝ }
+        ensures { λ r. ⌜ Moves (state.pushEvent (decode first second)) (view self (now (room .entry))) (view r (now (room .exit))) ⌝ }
     {
         if self.refused != 0 {
             return self;
@@ -181,8 +181,8 @@ impl Parser {
         if len < event::holds(room.len()) {
             event::store(room, len, first, second);
             return Parser {
-                pos,
-                since,
+                pos: self.pos,
+                since: self.since,
                 looks: self.looks,
                 len: len + 1,
                 refused: self.refused,
@@ -191,22 +191,24 @@ impl Parser {
         self.refuse(5)
     }
 
-    fn push_event(self, room: &mut [u32], first: u32, second: u32) -> Parser
-        requires { ⌜ Fit self ⌝ }
-        ensures { λ r. ⌜ Moves (state.pushEvent (decode first second)) (view self (now (room .entry))) (view r (now (room .exit))) ⌝ }
-    {
-        self.push_at(room, first, second, self.pos, self.since)
-    }
-
-    // Consumes n tokens as one of a kind, once its event is written.
+    // Consumes n tokens as one of a kind: first its event is written, and then the tokens are consumed.
     fn do_bump(self, kinds: &[u16], joints: &[u64], room: &mut [u32], kind: u16, n: usize) -> Parser
         requires { ⌜ Fit self ⌝ }
         requires { ⌜ (1 ≤ n) × (n ≤ 3) ⌝ }
         ensures { λ r. ⌜ view r (now (room .exit)) ≡ state.doBump (env (now (kinds .entry)) (now (joints .entry))) kind n (view self (now (room .entry))) ⌝ }
     {
-        let end = self.pos + n;
-        if input::enough(kinds, end) {
-            return self.push_at(room, event::TOKEN + kind as u32, n as u32, end, 0);
+        if input::enough(kinds, self.pos + n) {
+            let p = self.push_event(room, event::TOKEN + kind as u32, n as u32);
+            if p.refused != 0 {
+                return p;
+            }
+            return Parser {
+                pos: p.pos + n,
+                since: 0,
+                looks: p.looks,
+                len: p.len,
+                refused: p.refused,
+            };
         }
         if self.refused != 0 {
             return self;
