@@ -10,7 +10,7 @@ ghost use Rattle.kinds.specs.Sets.{kindsOf};
 ghost use Rattle.runtime.specs.Input.{env};
 ghost use Rattle.runtime.specs.Event.{decode, isStart, isBare};
 ghost use Rattle.runtime.specs.State as state;
-ghost use Rattle.runtime.specs.State.{view, Fit, Moves, eventAt};
+ghost use Rattle.runtime.specs.State.{view, Fit, Begins, Moves, eventAt};
 ghost use Rattle.runtime.specs.Acts as acts;
 ghost use Rattle.runtime.specs.Acts.{Does, Steps, Peeks, nthSees, sees, goes, stopped};
 
@@ -65,7 +65,7 @@ impl Completed {
 impl Parser {
     // A run that begins.
     pub fn new() -> Parser
-        ensures { λ r. ⌜ r ≡ state.new ⌝ }
+        ensures { λ r. ⌜ Begins r ⌝ }
     {
         Parser {
             pos: 0,
