@@ -14,6 +14,9 @@ ghost use Rattle.runtime.specs.State.{view, Fit, Begins, Moves, eventAt}
 ghost use Rattle.runtime.specs.Acts as acts;
 ghost use Rattle.runtime.specs.Acts.{Does, Steps, Peeks, nthSees, sees, goes, stopped};
 
+// At most so many lookups are made since the last token.
+const MOST_LOOKS: u32 = 10000;
+
 // The state: tokens consumed, lookups since the last token and in all, events written, and the refusal's number, 0 for none.
 // It is passed by value, and each operation hands it back. A refused one is handed back as it is.
 pub struct Parser {
@@ -118,7 +121,7 @@ impl Parser {
                 kind: k::EOF,
             };
         }
-        if self.since < 10000 {
+        if self.since < MOST_LOOKS {
             let kind = input::kind(kinds, self.refused, self.pos + n);
             let p = Parser {
                 pos: self.pos,
@@ -285,7 +288,7 @@ impl Parser {
         ensures { λ r. ⌜ Steps acts.start (view self (now (room .entry))) (r .m) (view (r .p) (now (room .exit))) ⌝ }
     {
         let m = self.len as u32;
-        let p = self.push_event(room, event::START + k::TOMBSTONE as u32, 0);
+        let p = self.push_event(room, event::TOMBSTONE, 0);
         Started { p, m }
     }
 
@@ -296,7 +299,7 @@ impl Parser {
         if m < self.len {
             if m < room.len() / 2 {
                 let at = 2 * m;
-                return room[at] / 65536 == 1;
+                return room[at] / event::START == 1;
             }
         }
         false
@@ -379,7 +382,7 @@ impl Parser {
         if m < self.len {
             if m < room.len() / 2 {
                 let at = 2 * m;
-                if room[at] == 65536 {
+                if room[at] == event::TOMBSTONE {
                     let next = at + 1;
                     return room[next] == 0;
                 }
@@ -394,7 +397,7 @@ impl Parser {
         ensures { λ r. ⌜ Steps (acts.precede cm) (view self (now (room .entry))) (r .m) (view (r .p) (now (room .exit))) ⌝ }
     {
         let m = self.len as u32;
-        let p = self.push_event(room, event::START + k::TOMBSTONE as u32, 0);
+        let p = self.push_event(room, event::TOMBSTONE, 0);
         let from = cm.pos;
         let distance = std::num::wrapping_sub_u32(m, from);
         let q = p.link(room, from as usize, distance);
