@@ -7,7 +7,7 @@ use Prim.Native.Nat.{ℕ, _+_, _-_, _*_, _≤_, _<_}
 use native.Mathlib.Nat.{le-refl, le-trans, le-of-lt}
 use native.Mathlib.Omega.{arith}
 use lib.ListN.{length, getD, set, length-set, List·getD-eq-default}
-use lib.Seq.{getD-set-same, getD-set-other, set-out}
+use lib.Seq.{getD-set-same, getD-set-other}
 use lib.Dec.{eqb, ltb}
 use borrow.Author.Tests.{ltb-true, ltb-false, eqb-true, eqb-false}
 use Rattle.runtime.specs.declared.parser.Parser.{Parser}
@@ -16,7 +16,7 @@ use Rattle.runtime.specs.declared.input.Parts.the-variants.{One, Two, Th
 use Rattle.runtime.specs.Input.{Env}
 use Rattle.runtime.specs.Glue.{rawCount}
 use Rattle.runtime.specs.Event.{Event, Event.none}
-use Rattle.runtime.specs.State.{St, mostTokens, mostLooks, live, refusal, counted, consumed, refuse, added, Fit}
+use Rattle.runtime.specs.State.{St, mostTokens, mostLooks, refusal, counted, consumed, Fit}
 use Rattle.runtime.specs.Cover.{Stands}
 use Rattle.runtime.specs.Acts.{Acts, run, left}
 use Rattle.runtime.proofs.Kept.{Kept, kept-run, by-pick}

@@ -1,20 +1,19 @@
 -- The one difference between `doBump` and the crate's `do_bump` shows at EOF alone: every other kind that stands somewhere is there to
 -- be consumed. Assumes nothing.
-use mathlib.Core.Path.{_≡_, refl, sym, ap, _∙_}
+use mathlib.Core.Path.{_≡_, refl, sym, _∙_}
 use mathlib.Core.Bool.{Bool, true, false}
 use Prim.Native.Nat.{ℕ, pred, _+_, _≤_, _<_, min}
 use native.Mathlib.Omega.{arith}
-use lib.ListN.{length, getD, List·getD-eq-default}
-use lib.Dec.{eqb, leb, ltb}
-use borrow.Author.Tests.{ltb-true, ltb-false, eqb-true, eq-eqb, le-leb}
+use lib.ListN.{length, List·getD-eq-default}
+use lib.Dec.{eqb, ltb}
+use borrow.Author.Tests.{ltb-true, ltb-false, eqb-true, le-leb}
 use Rattle.kinds.specs.Kinds.{EOF}
-use Rattle.runtime.specs.declared.parser.Parser.{Parser}
 use Rattle.runtime.specs.declared.input.Parts.{Parts}
 use Rattle.runtime.specs.declared.input.Parts.the-variants.{One, Two, Three}
 use Rattle.runtime.specs.Input.{Env, isJoint, seen}
 use Rattle.runtime.specs.Glue.{both, partsOf, rawCount, standsAt}
 use Rattle.runtime.specs.Event.{Event.token}
-use Rattle.runtime.specs.State.{St, mostTokens, pushEvent, enough, consume, doBump}
+use Rattle.runtime.specs.State.{St, mostTokens, pushEvent, consume, doBump}
 use Rattle.runtime.specs.Acts.{kindAhead, sees}
 use Rattle.runtime.proofs.Runs.{few-parts}
 use Rattle.runtime.proofs.Laws.{both-true, final, final-not-end}

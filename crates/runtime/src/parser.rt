@@ -5,7 +5,6 @@ use kinds::sets::Fixed;
 use kinds::syntax_kind_enum as k;
 ghost use mathlib.Core.Path.{_≡_};
 ghost use Prim.Native.Nat.{_+_, _*_, _≤_, _<_};
-ghost use lib.ListN.{length};
 ghost use Rattle.kinds.specs.Sets.{kindsOf};
 ghost use Rattle.runtime.specs.Input.{env};
 ghost use Rattle.runtime.specs.Event.{decode, isStart, isBare};
