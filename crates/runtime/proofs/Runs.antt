@@ -7,7 +7,7 @@ use Prim.Native.Nat.{ℕ, _+_, _-_, _*_, _≤_, _<_}
 use native.Mathlib.Nat.{le-refl, le-trans, le-of-lt}
 use native.Mathlib.Omega.{arith}
 use lib.ListN.{length, getD, set, length-set, List·getD-eq-default}
-use lib.Seq.{getD-set-same, getD-set-other, set-out}
+use lib.Seq.{getD-set-same, getD-set-other}
 use lib.Dec.{eqb, ltb}
 use borrow.Author.Tests.{ltb-true, ltb-false, eqb-true, eqb-false}
 use Rattle.runtime.specs.declared.parser.Parser.{Parser}
@@ -16,7 +16,7 @@ use Rattle.runtime.specs.declared.input.Parts.the-variants.{One, Two, Th
 use Rattle.runtime.specs.Input.{Env}
 use Rattle.runtime.specs.Glue.{rawCount}
 use Rattle.runtime.specs.Event.{Event, Event.none}
-use Rattle.runtime.specs.State.{St, mostTokens, mostLooks, live, refusal, counted, moved, refuse, added, Fit}
+use Rattle.runtime.specs.State.{St, mostTokens, mostLooks, refusal, counted, consumed, Fit}
 use Rattle.runtime.specs.Cover.{Stands}
 use Rattle.runtime.specs.Acts.{Acts, run, left}
 use Rattle.runtime.proofs.Kept.{Kept, kept-run, by-pick}
@@ -184,8 +184,8 @@ left-refused n p z = by-pick (λ (x : ℕ). x ≤ left p) (eqb n 0) _ 0 (λ q. r
 pub counted-spends : (p : Parser) → p .refused ≡ 0 → p .since < mostLooks → left (counted p) < left p
 counted-spends p z l = rw (left-live p z, left-live (counted p) z) (omega arith)
 
-pub moved-spends : (n len : ℕ) (p : Parser) → p .refused ≡ 0 → 1 ≤ n → p .pos + n ≤ mostTokens → left (moved (p .pos + n) 0 len p) < left p
-moved-spends n len p z h m = rw (left-live p z, left-live (moved (p .pos + n) 0 len p) z) (omega arith)
+pub consumed-spends : (n : ℕ) (p : Parser) → p .refused ≡ 0 → 1 ≤ n → p .pos + n ≤ mostTokens → left (consumed n p) < left p
+consumed-spends n p z h m = rw (left-live p z, left-live (consumed n p) z) (omega arith)
 
 spends : (e : Env) (n : ℕ) → Kept e (λ (r : St). left (r .p) ≤ n)
 unfolding left
@@ -194,7 +194,7 @@ spends e n =
       refusing = λ i s z h. le-trans (left-refused i (s .p) z) h;
       looking = λ s z l h. le-trans (le-of-lt (counted-spends (s .p) z l)) h;
       pushing = λ v s t z l h. h;
-      moving = λ k i s t q z l h. le-trans (le-of-lt (moved-spends i (s .p .len + 1) (s .p) z (some-tokens t) q)) h;
+      moving = λ k i s t q z l h. le-trans (le-of-lt (consumed-spends i (s .p) z (some-tokens t) q)) h;
       changing = λ i v s l t u z h. h;
       popping = λ s m l t z h. h;
     }

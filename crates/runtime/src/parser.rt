@@ -5,14 +5,16 @@ use kinds::sets::Fixed;
 use kinds::syntax_kind_enum as k;
 ghost use mathlib.Core.Path.{_≡_};
 ghost use Prim.Native.Nat.{_+_, _*_, _≤_, _<_};
-ghost use lib.ListN.{length};
 ghost use Rattle.kinds.specs.Sets.{kindsOf};
 ghost use Rattle.runtime.specs.Input.{env};
 ghost use Rattle.runtime.specs.Event.{decode, isStart, isBare};
 ghost use Rattle.runtime.specs.State as state;
-ghost use Rattle.runtime.specs.State.{view, Fit, Moves, eventAt};
+ghost use Rattle.runtime.specs.State.{view, Fit, Begins, Moves, eventAt};
 ghost use Rattle.runtime.specs.Acts as acts;
 ghost use Rattle.runtime.specs.Acts.{Does, Steps, Peeks, nthSees, sees, goes, stopped};
+
+// At most so many lookups are made since the last token.
+const MOST_LOOKS: u32 = 10000;
 
 // The state: tokens consumed, lookups since the last token and in all, events written, and the refusal's number, 0 for none.
 // It is passed by value, and each operation hands it back. A refused one is handed back as it is.
@@ -65,7 +67,7 @@ impl Completed {
 impl Parser {
     // A run that begins.
     pub fn new() -> Parser
-        ensures { λ r. ⌜ r ≡ state.new ⌝ }
+        ensures { λ r. ⌜ Begins r ⌝ }
     {
         Parser {
             pos: 0,
@@ -118,7 +120,7 @@ impl Parser {
                 kind: k::EOF,
             };
         }
-        if self.since < 10000 {
+        if self.since < MOST_LOOKS {
             let kind = input::kind(kinds, self.refused, self.pos + n);
             let p = Parser {
                 pos: self.pos,
@@ -169,10 +171,10 @@ impl Parser {
         }
     }
 
-    // Writes one event, where the room holds it, and then stands at `pos`, `since` lookups after the last token.
-    fn push_at(self, room: &mut [u32], first: u32, second: u32, pos: usize, since: u32) -> Parser
+    // Writes one event, where the room holds it.
+    fn push_event(self, room: &mut [u32], first: u32, second: u32) -> Parser
         requires { ⌜ Fit self ⌝ }
-        ensures { λ r. ⌜ view r (now (room .exit)) ≡ state.pushAt (decode first second) pos since (view self (now (room .entry))) ⌝ }
+        ensures { λ r. ⌜ Moves (state.pushEvent (decode first second)) (view self (now (room .entry))) (view r (now (room .exit))) ⌝ }
     {
         if self.refused != 0 {
             return self;
@@ -181,8 +183,8 @@ impl Parser {
         if len < event::holds(room.len()) {
             event::store(room, len, first, second);
             return Parser {
-                pos,
-                since,
+                pos: self.pos,
+                since: self.since,
                 looks: self.looks,
                 len: len + 1,
                 refused: self.refused,
@@ -191,22 +193,24 @@ impl Parser {
         self.refuse(5)
     }
 
-    fn push_event(self, room: &mut [u32], first: u32, second: u32) -> Parser
-        requires { ⌜ Fit self ⌝ }
-        ensures { λ r. ⌜ Moves (state.pushEvent (decode first second)) (view self (now (room .entry))) (view r (now (room .exit))) ⌝ }
-    {
-        self.push_at(room, first, second, self.pos, self.since)
-    }
-
-    // Consumes n tokens as one of a kind, once its event is written.
+    // Consumes n tokens as one of a kind: first its event is written, and then the tokens are consumed.
     fn do_bump(self, kinds: &[u16], joints: &[u64], room: &mut [u32], kind: u16, n: usize) -> Parser
         requires { ⌜ Fit self ⌝ }
         requires { ⌜ (1 ≤ n) × (n ≤ 3) ⌝ }
         ensures { λ r. ⌜ view r (now (room .exit)) ≡ state.doBump (env (now (kinds .entry)) (now (joints .entry))) kind n (view self (now (room .entry))) ⌝ }
     {
-        let end = self.pos + n;
-        if input::enough(kinds, end) {
-            return self.push_at(room, event::TOKEN + kind as u32, n as u32, end, 0);
+        if input::enough(kinds, self.pos + n) {
+            let p = self.push_event(room, event::TOKEN + kind as u32, n as u32);
+            if p.refused != 0 {
+                return p;
+            }
+            return Parser {
+                pos: p.pos + n,
+                since: 0,
+                looks: p.looks,
+                len: p.len,
+                refused: p.refused,
+            };
         }
         if self.refused != 0 {
             return self;
@@ -283,7 +287,7 @@ impl Parser {
         ensures { λ r. ⌜ Steps acts.start (view self (now (room .entry))) (r .m) (view (r .p) (now (room .exit))) ⌝ }
     {
         let m = self.len as u32;
-        let p = self.push_event(room, event::START + k::TOMBSTONE as u32, 0);
+        let p = self.push_event(room, event::TOMBSTONE, 0);
         Started { p, m }
     }
 
@@ -294,7 +298,7 @@ impl Parser {
         if m < self.len {
             if m < room.len() / 2 {
                 let at = 2 * m;
-                return room[at] / 65536 == 1;
+                return room[at] / event::START == 1;
             }
         }
         false
@@ -377,7 +381,7 @@ impl Parser {
         if m < self.len {
             if m < room.len() / 2 {
                 let at = 2 * m;
-                if room[at] == 65536 {
+                if room[at] == event::TOMBSTONE {
                     let next = at + 1;
                     return room[next] == 0;
                 }
@@ -392,7 +396,7 @@ impl Parser {
         ensures { λ r. ⌜ Steps (acts.precede cm) (view self (now (room .entry))) (r .m) (view (r .p) (now (room .exit))) ⌝ }
     {
         let m = self.len as u32;
-        let p = self.push_event(room, event::START + k::TOMBSTONE as u32, 0);
+        let p = self.push_event(room, event::TOMBSTONE, 0);
         let from = cm.pos;
         let distance = std::num::wrapping_sub_u32(m, from);
         let q = p.link(room, from as usize, distance);

@@ -1,6 +1,5 @@
 -- `parser::Parser::extend_to` meets its contract. Assumes nothing.
 use borrow.Author.Needs.{needs}
-use native.Mathlib.Omega.{arith}
 use Rattle.runtime.proofs.Cases.{far, extend-done}
 use Rattle.runtime.proofs.parser.Parser.extend_to.Statement.{statement}
 use Rattle.runtime.proofs.parser.Parser.extend_to.Tie as tie

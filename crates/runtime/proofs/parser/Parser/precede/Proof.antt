@@ -1,18 +1,11 @@
 -- `parser::Parser::precede` meets its contract. Assumes nothing.
 use borrow.Author.Needs.{needs}
-use native.Mathlib.Omega.{arith}
 use Rattle.runtime.proofs.Cases.{far, precede-done}
 use Rattle.runtime.proofs.parser.Parser.precede.Statement.{statement}
 use Rattle.runtime.proofs.parser.Parser.precede.Tie as tie
 
 cast-m : tie.Need-cast-m
 cast-m c = search needs
-
-cast-push-event : tie.Need-cast-push-event
-cast-push-event c = search needs
-
-add-push-event : tie.Need-add-push-event
-add-push-event c = search needs
 
 push-event-requires : tie.Need-push-event-requires
 push-event-requires c κs = search needs
@@ -37,8 +30,6 @@ precede-spec =
     tie.close
     (tie.spec
     cast-m
-    cast-push-event
-    add-push-event
     push-event-requires
     wrapping-sub-u32-requires
     cast-link

@@ -7,12 +7,6 @@ use Rattle.runtime.proofs.parser.Parser.start.Tie as tie
 cast-m : tie.Need-cast-m
 cast-m c = search needs
 
-cast-push-event : tie.Need-cast-push-event
-cast-push-event c = search needs
-
-add-push-event : tie.Need-add-push-event
-add-push-event c = search needs
-
 push-event-requires : tie.Need-push-event-requires
 push-event-requires c κs = search needs
 
@@ -23,6 +17,4 @@ returns : tie.Need-returns
 returns c = start-done _ (c .before .before .before .before .before .before .pre) (c .before .before .push-event .ensures .same)
 
 pub start-spec : {M : Type 1} → statement M
-start-spec =
-    tie.close
-    (tie.spec cast-m cast-push-event add-push-event push-event-requires same-length returns)
+start-spec = tie.close (tie.spec cast-m push-event-requires same-length returns)
