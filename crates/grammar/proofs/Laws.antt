@@ -1,0 +1,43 @@
+-- What flattens a definition, and the tests of a list that change nothing. Assumes nothing.
+use mathlib.Core.Path.{_≡_, refl, ap, _∙_, sym}
+use mathlib.Core.Bool.{Bool, true, false, not}
+use Prim.Native.Nat.{ℕ}
+use Rattle.kinds.specs.Membership.{pick}
+use Rattle.kinds.specs.Kinds.{EOF}
+use Rattle.runtime.specs.Input.{Env}
+use Rattle.runtime.specs.State.{St}
+use Rattle.runtime.specs.Acts.{Acts, Acts.done, Acts.act, _>>=_, at, sees, Does}
+use Rattle.runtime.proofs.Laws.{see}
+use Rattle.grammar.specs.declared.params.Shape.{Shape}
+use Rattle.grammar.specs.Params.{atListEnd, endsHere, listGoes, goesHere}
+
+pub assoc : {A B C : Type 0} (m : Acts A) (f : A → Acts B) (g : B → Acts C) → (m >>= f) >>= g ≡ m >>= (λ x. f x >>= g)
+unfolding _>>=_
+assoc (done a) f g = refl
+assoc {C = C} (act o m) f g = ap {B = Acts C} (act o) (λ i x. assoc (m x) f g i)
+
+pub done-bind : {A B : Type 0} (a : A) (f : A → Acts B) → (done a) >>= f ≡ f a
+unfolding _>>=_
+done-bind a f = refl
+
+pub pick-bind : {A B : Type 0} (b : Bool) (x y : Acts A) (f : A → Acts B) → (pick b x y) >>= f ≡ pick b (x >>= f) (y >>= f)
+pick-bind true x y f = refl
+pick-bind false x y f = refl
+
+module _ {B : Type 0} (e : Env) (sh : Shape) (f : Bool → Acts B) (s : St) where
+  ends-as : (a b : Bool) → sees e (s .p) (sh .end) ≡ a → sees e (s .p) (sh .end2) ≡ b → {r : B} {t : St} → Does e (f (pick a true b)) s r t → Does e (atListEnd sh >>= f) s r t
+  unfolding atListEnd
+  ends-as true b p q d = simp (assoc, pick-bind, done-bind) (see _ _ _ _ (sym p) d)
+  ends-as false b p q d = simp (assoc, pick-bind, done-bind) (see _ _ _ _ (sym p) (see _ _ _ _ (sym q) d))
+
+  pub list-end : {x : Bool} {r : B} {t : St} → x ≡ endsHere e (s .p) sh → Does e (f x) s r t → Does e (atListEnd sh >>= f) s r t
+  list-end q d = ends-as (sees e (s .p) (sh .end)) (sees e (s .p) (sh .end2)) refl refl (rw (sym q) d)
+
+module _ {B : Type 0} (e : Env) (sh : Shape) (f : Bool → Acts B) (s : St) where
+  goes-as : (a : Bool) → sees e (s .p) EOF ≡ a → {r : B} {t : St} → Does e (f (pick a false (not (endsHere e (s .p) sh)))) s r t → Does e (listGoes sh >>= f) s r t
+  unfolding listGoes
+  goes-as true p d = simp (assoc, pick-bind, done-bind) (see _ _ _ _ (sym p) d)
+  goes-as false p d = simp (assoc, pick-bind, done-bind) (see _ _ _ _ (sym p) (list-end e sh _ s refl d))
+
+  pub list-go : {x : Bool} {r : B} {t : St} → x ≡ goesHere e (s .p) sh → Does e (f x) s r t → Does e (listGoes sh >>= f) s r t
+  list-go q d = goes-as (sees e (s .p) EOF) refl (rw (sym q) d)

@@ -1,0 +1,110 @@
+-- A table of powers as words against the listing that defines it: one test that antt computes, and one law. Assumes nothing.
+use mathlib.Core.Path.{_≡_, refl, ap}
+use mathlib.Core.Bool.{Bool, true, false}
+use mathlib.Core.List.{List, [], _∷_}
+use Prim.Native.Nat.{ℕ, zero, suc, _/_, _%_, _≤_, _<_}
+use native.Mathlib.Omega.{arith}
+use lib.Dec.{T, eqb, ltb, leb, eqb→eq, ltb→lt, leb→le}
+use lib.Arith.{digits-div, digits-mod}
+use lib.ListN.{getD}
+use borrow.Author.Tests.{eqb-true, eqb-false, ne-eqb}
+use Rattle.kinds.proofs.Laws.{both, both-parts}
+use Rattle.kinds.specs.Membership.{pick}
+use Rattle.grammar.specs.Operators.{Power, Table, left, listed, packed, crateOrder, specificationOrder, tableOf}
+
+-- the words of mode 0 and of mode 1, as src/operators.rt has them
+abbrev pub crateWords : List ℕ
+crateWords =
+    256 ∷ 256 ∷ 770 ∷ 256 ∷ 256 ∷ 256 ∷ 256 ∷ 256 ∷ 256 ∷ 256 ∷ 256 ∷ 1541 ∷ 1541 ∷ 256 ∷ 256 ∷ 256 ∷ 256
+    ∷ 256 ∷ 2312 ∷ 1798 ∷ 2826 ∷ 3083 ∷ 3083 ∷ 2055 ∷ 3083 ∷ 256 ∷ 256 ∷ 770 ∷ 256 ∷ 770 ∷ 256 ∷ 256 ∷ 3084
+    ∷ 1541 ∷ 256 ∷ 256 ∷ 1541 ∷ 2826 ∷ 256 ∷ 1541 ∷ 1541 ∷ 257 ∷ 257 ∷ 257 ∷ 257 ∷ 257 ∷ 257 ∷ 257 ∷ 257 ∷ 1284
+    ∷ 1027 ∷ 2569 ∷ 2569 ∷ 257 ∷ 257 ∷ []
+
+abbrev pub specificationWords : List ℕ
+specificationWords =
+    256 ∷ 256 ∷ 770 ∷ 256 ∷ 256 ∷ 256 ∷ 256 ∷ 256 ∷ 256 ∷ 256 ∷ 256 ∷ 3340 ∷ 3340 ∷ 256 ∷ 256 ∷ 256 ∷ 256
+    ∷ 256 ∷ 2826 ∷ 1798 ∷ 4368 ∷ 4882 ∷ 4882 ∷ 2312 ∷ 4882 ∷ 256 ∷ 256 ∷ 770 ∷ 256 ∷ 770 ∷ 256 ∷ 256 ∷ 5140
+    ∷ 3340 ∷ 256 ∷ 256 ∷ 3340 ∷ 4368 ∷ 256 ∷ 3340 ∷ 3340 ∷ 257 ∷ 257 ∷ 257 ∷ 257 ∷ 257 ∷ 257 ∷ 257 ∷ 257 ∷ 1284
+    ∷ 1027 ∷ 3854 ∷ 3854 ∷ 257 ∷ 257 ∷ []
+
+-- the words below n say what is listed
+unfoldable pub agree : ℕ → List ℕ → List (ℕ × Power) → Bool
+agree zero ws rs = true
+agree (suc n) ws rs = both (eqb (getD ws n 0) (packed (listed rs n))) (agree n ws rs)
+
+-- every listed kind is below n
+unfoldable pub below : ℕ → List (ℕ × Power) → Bool
+below n [] = true
+below n (r ∷ rs) = both (ltb (r .0) n) (below n rs)
+
+pub in-words : (n : ℕ) (ws : List ℕ) (rs : List (ℕ × Power)) → T (agree n ws rs) → (k : ℕ) → k < n → getD ws k 0 ≡ packed (listed rs k)
+unfolding agree
+in-words zero ws rs t k h = absurd (omega arith)
+in-words (suc n) ws rs t k h = by (eqb k n) refl (in-words n ws rs (both-parts (eqb (getD ws n 0) (packed (listed rs n))) (agree n ws rs) t .1) k)
+  where
+    by : (b : Bool) → eqb k n ≡ b → (k < n → getD ws k 0 ≡ packed (listed rs k)) → getD ws k 0 ≡ packed (listed rs k)
+    by true e before = rw (eqb-true k n e) (eqb→eq _ _ (both-parts (eqb (getD ws n 0) (packed (listed rs n))) (agree n ws rs) t .0))
+    by false e before = before (omega (arith, eqb-false k n e))
+
+pub past-words : (n : ℕ) (rs : List (ℕ × Power)) → T (below n rs) → (k : ℕ) → n ≤ k → listed rs k ≡ left 0
+unfolding below
+past-words n [] t k h = refl
+past-words n (r ∷ rs) t k h =
+    let parts : T (ltb (r .0) n) × T (below n rs) = both-parts (ltb (r .0) n) (below n rs) t in
+    rw (ne-eqb k (r .0) (λ e. omega (arith, ltb→lt (r .0) n (parts .0)))) (past-words n rs (parts .1) k h)
+
+-- the table of a mode
+pub mode-zero : (m : ℕ) → m ≡ 0 → tableOf m ≡ listed crateOrder
+unfolding tableOf
+mode-zero zero h = refl
+mode-zero (suc m) h = absurd (omega arith)
+
+pub mode-other : (m : ℕ) → (m ≡ 0 → ⊥) → tableOf m ≡ listed specificationOrder
+unfolding tableOf
+mode-other zero h = absurd (h refl)
+mode-other (suc m) h = refl
+
+-- a kind past the words has no power in either mode
+pub no-power : (mode k : ℕ) → 55 ≤ k → tableOf mode k ≡ left 0
+unfolding tableOf below
+no-power zero k h = past-words 55 crateOrder tt k h
+no-power (suc m) k h = past-words 55 specificationOrder tt k h
+
+-- What holds of each listed row, and of no operator, holds of the table of every mode.
+unfoldable pub every : (Power → Bool) → List (ℕ × Power) → Bool
+every f [] = f (left 0)
+every f (r ∷ rs) = both (f (r .1)) (every f rs)
+
+pub each : (f : Power → Bool) (rs : List (ℕ × Power)) → T (every f rs) → (k : ℕ) → T (f (listed rs k))
+unfolding every
+each f [] t k = t
+each f (r ∷ rs) t k = by (eqb k (r .0)) (both-parts (f (r .1)) (every f rs) t .0) (each f rs (both-parts (f (r .1)) (every f rs) t .1) k)
+  where
+    by : (b : Bool) → T (f (r .1)) → T (f (listed rs k)) → T (f (pick b (r .1) (listed rs k)))
+    by true x y = x
+    by false x y = y
+
+pub in-table : (f : Power → Bool) → T (every f crateOrder) → T (every f specificationOrder) → (mode k : ℕ) → T (f (tableOf mode k))
+unfolding tableOf
+in-table f c s zero k = each f crateOrder c k
+in-table f c s (suc m) k = each f specificationOrder s k
+
+-- no power lies above 254, and an operator's right side is not read below its power
+abbrev pub fair : Power → Bool
+fair q = both (leb (q .power) 254) (both (leb (q .power) (q .next)) (leb (q .next) 255))
+
+pub all-fair : (mode k : ℕ) → (tableOf mode k .power ≤ 254) × (tableOf mode k .power ≤ tableOf mode k .next) × (tableOf mode k .next ≤ 255)
+unfolding every
+all-fair mode k =
+    let t : T (fair (tableOf mode k)) = in-table fair tt tt mode k in
+    let q = tableOf mode k in
+    let a = both-parts (leb (q .power) 254) (both (leb (q .power) (q .next)) (leb (q .next) 255)) t in
+    let b = both-parts (leb (q .power) (q .next)) (leb (q .next) 255) (a .1) in
+    (leb→le _ _ (a .0), leb→le _ _ (b .0), leb→le _ _ (b .1))
+
+-- a word's two parts
+pub packed-power : (mode k : ℕ) → packed (tableOf mode k) % 256 ≡ tableOf mode k .power
+packed-power mode k = let h = all-fair mode k in digits-mod (tableOf mode k .next) (omega arith)
+
+pub packed-next : (mode k : ℕ) → packed (tableOf mode k) / 256 ≡ tableOf mode k .next
+packed-next mode k = let h = all-fair mode k in digits-div (tableOf mode k .next) (omega arith)

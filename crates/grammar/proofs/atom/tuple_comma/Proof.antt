@@ -1,0 +1,32 @@
+-- `atom::tuple_comma` meets its contract. Assumes nothing.
+use Rattle.runtime.proofs.Laws.{then, step, ends}
+use Rattle.grammar.proofs.Laws.{assoc, pick-bind, done-bind}
+use mathlib.Core.Path.{_∙_}
+use Rattle.grammar.specs.Atom as S
+use borrow.Author.Needs.{needs}
+use Rattle.grammar.proofs.atom.tuple_comma.Statement.{statement}
+use Rattle.grammar.proofs.atom.tuple_comma.Tie as tie
+
+eat-requires : tie.Need-eat-requires
+eat-requires c κs = c .before .before .before .before .pre
+
+error-requires : tie.Need-error-requires
+error-requires c κs = c .before .before .before .before .before .eat .ensures .fit
+
+same-length : tie.Need-same-length
+same-length c = c .before .before .error .kept .1 .0 ∙ c .before .before .before .before .before .before .before .before .eat .kept .1 .1 .1 .0
+
+returns : tie.Need-returns
+unfolding S.tupleComma
+returns c = simp (assoc, pick-bind, done-bind) (then _ _ _ _ (c .before .before .before .before .before .before .before .before .eat .ensures) (rw (c .before .before .before .before .if1 .taken) (step _ _ _ _ (c .before .before .error .ensures) (ends _ _ _ (c .before .before .error .ensures .fit)))))
+
+same-length-2 : tie.Need-same-length-2
+same-length-2 c = c .before .before .before .before .eat .kept .1 .1 .1 .0
+
+returns-2 : tie.Need-returns-2
+unfolding S.tupleComma
+returns-2 c = simp (assoc, pick-bind, done-bind) (then _ _ _ _ (c .before .before .before .before .eat .ensures) (rw (c .if1 .left) (ends _ _ _ (c .before .before .before .before .eat .ensures .fit))))
+
+pub tuple-comma-spec : {M : Type 1} → statement M
+tuple-comma-spec =
+    tie.close (tie.spec eat-requires error-requires same-length returns same-length-2 returns-2)

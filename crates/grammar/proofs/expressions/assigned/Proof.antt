@@ -1,0 +1,23 @@
+-- `expressions::assigned` meets its contract. Assumes nothing.
+use Rattle.runtime.proofs.Laws.{then, ends}
+use Rattle.grammar.specs.Expressions as S
+use borrow.Author.Needs.{needs}
+use Rattle.grammar.proofs.expressions.assigned.Statement.{statement}
+use Rattle.grammar.proofs.expressions.assigned.Tie as tie
+
+expect-requires : tie.Need-expect-requires
+expect-requires c κs = c .before .before .before .before .before .pre
+
+same-length : tie.Need-same-length
+same-length c = c .before .before .before .expect .kept .1 .1 .1 .0
+
+returns : tie.Need-returns
+unfolding S.assigned
+returns c = rw (c .before .before .before .before .before .if1 .taken) (then _ _ _ _ (c .before .before .before .expect .ensures) (ends _ _ _ (c .before .before .before .expect .ensures .fit)))
+
+returns-2 : tie.Need-returns-2
+unfolding S.assigned
+returns-2 c = rw (c .if1 .left) (ends _ _ _ (c .before .before .before .before .pre))
+
+pub assigned-spec : {M : Type 1} → statement M
+assigned-spec = tie.close (tie.spec expect-requires same-length returns returns-2)

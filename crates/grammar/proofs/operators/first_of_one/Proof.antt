@@ -1,0 +1,17 @@
+-- `operators::first_of_one` meets its contract. Assumes nothing.
+use Rattle.runtime.proofs.Laws.{see, only, ends}
+use borrow.Author.Needs.{needs}
+use Rattle.grammar.proofs.operators.first_of_one.Statement.{statement}
+use Rattle.grammar.proofs.operators.first_of_one.Tie as tie
+
+at-requires : tie.Need-at-requires
+at-requires c κs = c .before .before .pre
+
+returns : tie.Need-returns
+returns c = only _ _ _ (λ room. see _ _ _ _ (c .before .at .ensures) (rw (c .if1 .taken) (ends _ _ _ (c .before .before .before .before .pre))))
+
+returns-2 : tie.Need-returns-2
+returns-2 c = only _ _ _ (λ room. see _ _ _ _ (c .before .at .ensures) (rw (c .if1 .left) (ends _ _ _ (c .before .before .before .before .pre))))
+
+pub first-of-one-spec : {M : Type 1} → statement M
+first-of-one-spec = tie.close (tie.spec at-requires returns returns-2)

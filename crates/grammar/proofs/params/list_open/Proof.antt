@@ -1,0 +1,32 @@
+-- `params::list_open` meets its contract. Assumes nothing.
+use Rattle.runtime.proofs.Laws.{then, step, ends}
+use Rattle.grammar.proofs.Laws.{assoc, pick-bind, done-bind}
+use mathlib.Core.Path.{_∙_}
+use Rattle.grammar.specs.Params as S
+use borrow.Author.Needs.{needs}
+use Rattle.grammar.proofs.params.list_open.Statement.{statement}
+use Rattle.grammar.proofs.params.list_open.Tie as tie
+
+start-requires : tie.Need-start-requires
+start-requires c κs = c .before .before .before .before .pre
+
+bump-requires : tie.Need-bump-requires
+bump-requires c κs = c .before .before .before .before .before .start .ensures .fit
+
+same-length : tie.Need-same-length
+same-length c = c .before .before .bump .kept .1 .1 .1 .0 ∙ c .before .before .before .before .before .before .before .before .start .kept .1 .0
+
+returns : tie.Need-returns
+unfolding S.listOpen
+returns c = simp (assoc, pick-bind, done-bind) (step _ _ _ _ (c .before .before .before .before .before .before .before .before .start .ensures) (rw (c .before .before .before .before .if1 .taken) (then _ _ _ _ (c .before .before .bump .ensures) (ends _ _ _ (c .before .before .bump .ensures .fit)))))
+
+same-length-2 : tie.Need-same-length-2
+same-length-2 c = c .before .before .before .before .start .kept .1 .0
+
+returns-2 : tie.Need-returns-2
+unfolding S.listOpen
+returns-2 c = simp (assoc, pick-bind, done-bind) (step _ _ _ _ (c .before .before .before .before .start .ensures) (rw (c .if1 .left) (ends _ _ _ (c .before .before .before .before .start .ensures .fit))))
+
+pub list-open-spec : {M : Type 1} → statement M
+list-open-spec =
+    tie.close (tie.spec start-requires bump-requires same-length returns same-length-2 returns-2)

@@ -1,0 +1,307 @@
+-- src/grammar/expressions/atom.rs. Each definition has the name of its function there. Assumes nothing: these are definitions.
+use mathlib.Core.Bool.{Bool, true, false, not, _&&_, _||_}
+use mathlib.Core.List.{List, [], _∷_}
+use Prim.Native.Nat.{ℕ}
+use lib.Dec.{eqb}
+use Rattle.kinds.specs.Membership.{pick, oneOf}
+use Rattle.kinds.specs.Kinds.{SEMICOLON, COMMA, L-PAREN, R-PAREN, L-BRACK, R-BRACK, L-CURLY, R-CURLY, AT, IDENT, HARDWAREIDENT, STRING, BOX-KW, MEASURE-KW, RETURN-KW, INV-KW, POW-KW, CTRL-KW, NEGCTRL-KW, GPHASE-KW, LITERAL, TIMING-LITERAL, CAST-EXPRESSION, G-PHASE-CALL-EXPR, INV-MODIFIER, POW-MODIFIER, CTRL-MODIFIER, NEG-CTRL-MODIFIER, PAREN-EXPR, TUPLE-EXPR, MODIFIED-GATE-CALL-EXPR, GATE-CALL-EXPR, MEASURE-EXPRESSION, IDENTIFIER, HARDWARE-QUBIT, ARRAY-EXPR, BLOCK-EXPR, RETURN-EXPR, BOX-EXPR}
+use Rattle.kinds.specs.Sets.{LITERAL-FIRST, TIMING-LITERAL-FIRST, EXPR-FIRST, CLASSICAL-TYPES, QUBIT-FIRST}
+use Rattle.kinds.specs.Messages.{UNEXPECTED-STRING-LITERAL, TIMING-AND-IMAGINARY-LITERALS-MUST-BEGIN-WITH, ATOM-EXPR-EXPECTED-EXPRESSION, MODIFIER-INV-ACCEPTS-NO-PARAMETER-EXPECTING-AT, EXPECTING-AT, EXPECTING-ARGUMENT-TO-POW-GATE-MODIFIER, EXPECTING-QUBIT-S-TO-MEASURE, EXPECTED-EXPRESSION-FOUND-COMMA-INSTEAD, EXPECTED-A-BLOCK}
+use Rattle.runtime.specs.declared.parser.Completed.{Completed}
+use Rattle.runtime.specs.Acts.{Acts, Acts.done, _>>=_, _>>_, at, atTs, nth, current, eat, bump, bumpAny, expect, must, start, complete, errAndBump, goesOn, Turn, Turn.more, Turn.last, repeats}
+use Rattle.grammar.specs.declared.Got.{Got}
+use Rattle.grammar.specs.declared.Got.the-variants.{Is, Nothing}
+use Rattle.grammar.specs.declared.atom.Next.{Next}
+use Rattle.grammar.specs.declared.atom.Next.the-variants.{Semi, Comma, Stop}
+use Rattle.grammar.specs.Grammar.{Counted, when, just, fail, failIfAt, isBlocklike}
+use Rattle.grammar.specs.Expressions.{expr, exprBlockContents, callArgList}
+use Rattle.grammar.specs.Params.{argGateCallQubit, argListGateCallQubits}
+
+-- fn identifier, line 242
+unfoldable pub identifier : Acts Completed
+identifier = do
+  m ← start
+  expect IDENT
+  complete m IDENTIFIER
+
+-- fn hardware_qubit, line 248
+unfoldable pub hardwareQubit : Acts Completed
+hardwareQubit = do
+  m ← start
+  bump HARDWAREIDENT
+  complete m HARDWARE-QUBIT
+
+-- the error of fn literal, line 38, where the suffix follows no number
+unfoldable pub timing : Acts (Unit {0})
+timing = do
+  b ← atTs TIMING-LITERAL-FIRST
+  when (not b) (fail TIMING-AND-IMAGINARY-LITERALS-MUST-BEGIN-WITH)
+
+-- an atom, and whether it is block-like
+abbrev pub node : Acts Completed → Acts Got
+node m = do
+  cm ← m
+  done (Is cm (isBlocklike (cm .kind)))
+
+-- fn literal, line 22: a literal is never block-like
+unfoldable pub literal : Acts Got
+literal = do
+  first ← atTs LITERAL-FIRST
+  pick first (do
+    failIfAt STRING UNEXPECTED-STRING-LITERAL
+    m ← start
+    k ← nth 1
+    pick (eqb k IDENT) (do
+      timing
+      m2 ← start
+      bumpAny
+      complete m LITERAL
+      identifier
+      cm ← complete m2 TIMING-LITERAL
+      done (Is cm false)) (do
+        bumpAny
+        cm ← complete m LITERAL
+        done (Is cm false))) (done Nothing)
+
+-- the arm of fn modified_gate_call_expr, line 146
+unfoldable pub invModifier : Acts (Unit {0})
+invModifier = do
+  m1 ← start
+  bump INV-KW
+  b ← at AT
+  pick b (bump AT) (do
+    b ← at L-PAREN
+    pick b (fail MODIFIER-INV-ACCEPTS-NO-PARAMETER-EXPECTING-AT) (fail EXPECTING-AT))
+  just (complete m1 INV-MODIFIER)
+
+-- a modifier that has no argument
+unfoldable pub noArgument : ℕ → Acts (Unit {0})
+noArgument kw = when (eqb kw POW-KW) (fail EXPECTING-ARGUMENT-TO-POW-GATE-MODIFIER)
+
+-- fn tuple_expr, line 266: a comma at its begin; line 280: whether there was a comma, after an element; line 284: its end
+unfoldable pub tupleComma : Acts Bool
+tupleComma = do
+  comma ← eat COMMA
+  when comma (fail EXPECTED-EXPRESSION-FOUND-COMMA-INSTEAD)
+  done comma
+
+unfoldable pub tupleNext : Bool → Acts Bool
+tupleNext comma = do
+  b ← at R-PAREN
+  pick b (done comma) (do
+    expect COMMA
+    done true)
+
+unfoldable pub tupleKind : Bool → Bool → ℕ
+tupleKind saw comma = pick (saw && not comma) PAREN-EXPR TUPLE-EXPR
+
+unfoldable pub tupleEnd : ℕ → Bool → Bool → Acts Completed
+tupleEnd m saw comma = do
+  expect R-PAREN
+  complete m (tupleKind saw comma)
+
+-- fn array_expr, line 310: what follows an element, and its end
+unfoldable pub firstSemicolon : Bool → Acts Bool
+firstSemicolon first = pick first (eat SEMICOLON) (done false)
+
+unfoldable pub arrayNext : Bool → Bool → Acts Next
+arrayNext first semi = do
+  now ← firstSemicolon first
+  pick now (done Semi) (pick semi (done Stop) (do
+    b ← at R-BRACK
+    pick b (done Comma) (do
+      comma ← expect COMMA
+      pick comma (done Comma) (done Stop))))
+
+unfoldable pub arrayEnd : ℕ → Acts Completed
+arrayEnd m = do
+  expect R-BRACK
+  complete m ARRAY-EXPR
+
+module _ (deeper : Counted) where
+  -- fn cast_expr, line 125
+  unfoldable pub castExpr : Acts Completed
+  castExpr = do
+    m ← start
+    deeper .typeSpec
+    expect L-PAREN
+    expr deeper
+    expect R-PAREN
+    complete m CAST-EXPRESSION
+
+  -- fn gphase_call_expr, line 134
+  unfoldable pub gphaseCallExpr : Acts Completed
+  gphaseCallExpr = do
+    must GPHASE-KW
+    m ← start
+    bump GPHASE-KW
+    expr deeper
+    complete m G-PHASE-CALL-EXPR
+
+  -- fn gate_call_expr, line 214
+  unfoldable pub gateCallExpr : Acts Completed
+  gateCallExpr = do
+    m ← start
+    identifier
+    b ← at L-PAREN
+    when b (callArgList deeper)
+    argListGateCallQubits deeper
+    complete m GATE-CALL-EXPR
+
+  -- an arm of fn modified_gate_call_expr, line 160, 176 or 190: `pow` must have an argument, `ctrl` and `negctrl` may
+  unfoldable pub modifier : ℕ → ℕ → Acts (Unit {0})
+  modifier kw node = do
+    m1 ← start
+    bump kw
+    b ← at L-PAREN
+    pick b (do
+      m2 ← start
+      expect L-PAREN
+      expr deeper
+      expect R-PAREN
+      just (complete m2 PAREN-EXPR)) (noArgument kw)
+    expect AT
+    just (complete m1 node)
+
+  -- fn modified_gate_call_expr, line 142: a round of its loop, and the whole
+  unfoldable pub modifiedGateCallExprRound : Unit {0} → Acts (Turn (Unit {0}))
+  modifiedGateCallExprRound x = do
+    k ← current
+    pick (eqb k INV-KW) (invModifier >> done (more tt))
+        (pick (eqb k POW-KW) (modifier POW-KW POW-MODIFIER >> done (more tt))
+        (pick (eqb k CTRL-KW) (modifier CTRL-KW CTRL-MODIFIER >> done (more tt))
+        (pick (eqb k NEGCTRL-KW) (modifier NEGCTRL-KW NEG-CTRL-MODIFIER >> done (more tt)) (done (last tt)))))
+
+  unfoldable pub modifiedGateCallExpr : Acts Completed
+  modifiedGateCallExpr = do
+    m ← start
+    repeats modifiedGateCallExprRound tt
+    b ← at GPHASE-KW
+    pick b gphaseCallExpr gateCallExpr
+    complete m MODIFIED-GATE-CALL-EXPR
+
+  -- fn measure_expression, line 224
+  unfoldable pub measureExpression : Acts Completed
+  measureExpression = do
+    m ← start
+    bump MEASURE-KW
+    k ← current
+    pick (oneOf QUBIT-FIRST k) (do
+      m1 ← start
+      just (argGateCallQubit deeper m1)) (fail EXPECTING-QUBIT-S-TO-MEASURE)
+    complete m MEASURE-EXPRESSION
+
+  -- fn tuple_expr, line 258: a round of its loop, which carries saw_expr and saw_comma, and the whole
+  unfoldable pub tupleExprRound : Bool × Bool → Acts (Turn (Bool × Bool))
+  tupleExprRound x = do
+    go ← goesOn R-PAREN
+    pick go (do
+      g ← expr deeper
+      elim g [
+        | Nothing ↦ done (last (true, x .1))
+        | Is cm block ↦ (do
+          comma ← tupleNext (x .1)
+          done (more (true, comma)))
+      ]) (done (last x))
+
+  unfoldable pub tupleExpr : Acts Completed
+  tupleExpr = do
+    must L-PAREN
+    m ← start
+    expect L-PAREN
+    comma ← tupleComma
+    x ← repeats tupleExprRound (false, comma)
+    tupleEnd m (x .0) (x .1)
+
+  -- fn array_expr, line 294: a round of its loop, which carries whether n_exprs is still 0 and has_semi, and the whole
+  unfoldable pub arrayExprRound : Bool × Bool → Acts (Turn (Bool × Bool))
+  arrayExprRound x = do
+    go ← goesOn R-BRACK
+    pick go (do
+      g ← expr deeper
+      elim g [
+        | Nothing ↦ done (last x)
+        | Is cm block ↦ (do
+          next ← arrayNext (x .0) (x .1)
+          elim next [
+            | Semi ↦ done (more (false, true))
+            | Comma ↦ done (more (false, x .1))
+            | Stop ↦ done (last x)
+          ])
+      ]) (done (last x))
+
+  unfoldable pub arrayExpr : Acts Completed
+  arrayExpr = do
+    must L-BRACK
+    m ← start
+    bump L-BRACK
+    repeats arrayExprRound (true, false)
+    arrayEnd m
+
+  -- fn block_expr, line 332
+  unfoldable pub blockExpr : Acts Completed
+  blockExpr = do
+    must L-CURLY
+    m ← start
+    bump L-CURLY
+    exprBlockContents deeper
+    expect R-CURLY
+    complete m BLOCK-EXPR
+
+  -- fn try_block_expr, line 324
+  unfoldable pub tryBlockExpr : Acts (Unit {0})
+  tryBlockExpr = do
+    b ← at L-CURLY
+    pick b (just blockExpr) (fail EXPECTED-A-BLOCK)
+
+  -- fn return_expr, line 347
+  unfoldable pub returnExpr : Acts Completed
+  returnExpr = do
+    must RETURN-KW
+    m ← start
+    bumpAny
+    b ← atTs EXPR-FIRST
+    when b (just (expr deeper))
+    complete m RETURN-EXPR
+
+  -- fn box_expr, line 358: its marker m is always None
+  unfoldable pub boxExpr : Acts Completed
+  boxExpr = do
+    must BOX-KW
+    m ← start
+    bump BOX-KW
+    b ← atTs EXPR-FIRST
+    when b (just (expr deeper))
+    complete m BOX-EXPR
+
+  -- fn atom_expr, line 80: the match on the token here, of which `la` is the next
+  unfoldable pub atomOf : ℕ → ℕ → Acts Got
+  atomOf k la =
+      pick (eqb k HARDWAREIDENT) (node hardwareQubit)
+      (pick (eqb k L-PAREN) (node tupleExpr)
+      (pick (eqb k L-BRACK) (node arrayExpr)
+      (pick (eqb k BOX-KW) (node boxExpr)
+      (pick (eqb k MEASURE-KW) (node measureExpression)
+      (pick (eqb k RETURN-KW) (node returnExpr)
+      (pick (eqb k L-CURLY) (node blockExpr)
+      (pick (oneOf (INV-KW ∷ POW-KW ∷ CTRL-KW ∷ NEGCTRL-KW ∷ []) k) (node modifiedGateCallExpr)
+      (pick (eqb k GPHASE-KW) (node gphaseCallExpr)
+      (pick (eqb k IDENT && oneOf QUBIT-FIRST la) (node gateCallExpr)
+      (pick (eqb k IDENT) (node identifier) (do
+        errAndBump ATOM-EXPR-EXPECTED-EXPRESSION
+        done Nothing)))))))))))
+
+  unfoldable pub atomExpr : Acts Got
+  atomExpr = do
+    g ← literal
+    elim g [
+      | Is cm block ↦ done (Is cm false)
+      | Nothing ↦ (do
+        la ← nth 1
+        k ← current
+        pick (oneOf CLASSICAL-TYPES k) (do
+          cm ← castExpr
+          done (Is cm false)) (do
+            k ← current
+            atomOf k la))
+    ]

@@ -1,0 +1,7 @@
+pub mod Grammar
+pub mod Operators
+pub mod Expressions
+pub mod Params
+pub mod Atom
+pub mod Items
+pub mod Entry

@@ -1,0 +1,135 @@
+// What the files of the grammar share: src/grammar.rs. The productions that call nothing recursive stand here and in the modules,
+// laid out as the crate's files; the others are in the crate cycle.
+pub mod atom;
+pub mod expressions;
+pub mod items;
+pub mod operators;
+pub mod params;
+
+use kinds::messages as say;
+use kinds::sets::Fixed;
+use kinds::syntax_kind as kind;
+use kinds::syntax_kind_enum as k;
+use runtime::parser::Completed;
+use runtime::parser::Parser;
+use runtime::parser::Told;
+ghost use mathlib.Core.Path.{_≡_};
+ghost use Rattle.runtime.specs.Input.{env};
+ghost use Rattle.runtime.specs.State.{view, Fit};
+ghost use Rattle.kinds.specs.Sets.{kindsOf};
+ghost use Rattle.runtime.specs.Acts.{Does};
+ghost use Rattle.grammar.specs.Grammar as acts;
+
+// `Option<Marker>`: a marker that is handed over, or none.
+pub enum Mark {
+    Given(u32),
+    Fresh,
+}
+
+// `Option<(CompletedMarker, BlockLike)>`: a completed marker and whether it is block-like, or none.
+pub enum Got {
+    Is(Completed, bool),
+    Nothing,
+}
+
+// The state and what was parsed.
+pub struct Parsed {
+    pub p: Parser,
+    pub got: Got,
+}
+
+// A name, or a recovery.
+pub fn name_r(kinds: &[u16], joints: &[u64], room: &mut [u32], p: Parser, recovery: Fixed) -> Parser
+    requires { ⌜ Fit p ⌝ }
+    ensures { λ r. ⌜ Does (env (now (kinds .entry)) (now (joints .entry))) (acts.nameR (kindsOf recovery)) (view p (now (room .entry))) tt (view r (now (room .exit))) ⌝ }
+{
+    if p.at(kinds, joints, k::HARDWAREIDENT) {
+        let s = p.start(room);
+        let p1 = s.p;
+        let p2 = p1.bump(kinds, joints, room, k::HARDWAREIDENT);
+        let d = p2.complete(room, s.m, k::HARDWARE_QUBIT);
+        return d.p;
+    }
+    if p.at(kinds, joints, k::IDENT) {
+        let s = p.start(room);
+        let p1 = s.p;
+        let p2 = p1.bump(kinds, joints, room, k::IDENT);
+        let d = p2.complete(room, s.m, k::NAME);
+        return d.p;
+    }
+    p.err_recover(kinds, joints, room, say::EXPECTED_A_NAME, recovery)
+}
+
+// An error where a kind stands.
+pub fn fail_if_at(
+    kinds: &[u16],
+    joints: &[u64],
+    room: &mut [u32],
+    p: Parser,
+    kind: u16,
+    code: u16,
+) -> Parser
+    requires { ⌜ Fit p ⌝ }
+    ensures { λ r. ⌜ Does (env (now (kinds .entry)) (now (joints .entry))) (acts.failIfAt kind code) (view p (now (room .entry))) tt (view r (now (room .exit))) ⌝ }
+{
+    if p.at(kinds, joints, kind) {
+        return p.error(room, code, 0);
+    }
+    p
+}
+
+// An error where a kind does not stand.
+pub fn fail_unless_at(
+    kinds: &[u16],
+    joints: &[u64],
+    room: &mut [u32],
+    p: Parser,
+    kind: u16,
+    code: u16,
+) -> Parser
+    requires { ⌜ Fit p ⌝ }
+    ensures { λ r. ⌜ Does (env (now (kinds .entry)) (now (joints .entry))) (acts.failUnlessAt kind code) (view p (now (room .entry))) tt (view r (now (room .exit))) ⌝ }
+{
+    if p.at(kinds, joints, kind) {
+        return p;
+    }
+    p.error(room, code, 0)
+}
+
+// After an element of a list: whether another one is to follow.
+pub fn separator(
+    kinds: &[u16],
+    joints: &[u64],
+    room: &mut [u32],
+    p: Parser,
+    delim: u16,
+    first: Fixed,
+) -> Told
+    requires { ⌜ Fit p ⌝ }
+    ensures { λ r. ⌜ Does (env (now (kinds .entry)) (now (joints .entry))) (acts.separator delim (kindsOf first)) (view p (now (room .entry))) (r .yes) (view (r .p) (now (room .exit))) ⌝ }
+{
+    if p.at(kinds, joints, delim) {
+        let p1 = p.bump(kinds, joints, room, delim);
+        return Told { p: p1, yes: true };
+    }
+    let t = p.at_ts(kinds, joints, first);
+    let p2 = t.p;
+    if t.yes {
+        let p3 = p2.error(room, say::EXPECTED, delim);
+        return Told { p: p3, yes: true };
+    }
+    Told { p: p2, yes: false }
+}
+
+// The error of a return type that is no scalar.
+pub fn scalar_return(kinds: &[u16], joints: &[u64], room: &mut [u32], p: Parser) -> Parser
+    requires { ⌜ Fit p ⌝ }
+    ensures { λ r. ⌜ Does (env (now (kinds .entry)) (now (joints .entry))) acts.scalarReturn (view p (now (room .entry))) tt (view r (now (room .exit))) ⌝ }
+{
+    let l = p.current(kinds, joints);
+    let p1 = l.p;
+    if kind::is_scalar_type(l.kind) {
+        return p1;
+    }
+    p1.error(room, say::EXPECTED_SCALAR_RETURN_TYPE_AFTER_ARROW, 0)
+}
