@@ -1,4 +1,4 @@
--- Events and their two words, as document 01 numbers them. Assumes nothing: these are definitions.
+-- Events and their two words, as docs/RULES.md section 2 numbers them. Assumes nothing: these are definitions.
 use mathlib.Core.List.{List, [], _∷_}
 use mathlib.Core.Bool.{Bool, true, false}
 use Prim.Native.Nat.{ℕ, _+_, _*_, _/_, _%_, min}
