@@ -1,5 +1,5 @@
 // Lists of events as lines of text, and their steps as lines: the listing of docs/RULES.md, section 9.
-mod read;
+pub mod read;
 mod show;
 
 use read::List;

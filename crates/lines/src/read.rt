@@ -26,7 +26,7 @@ pub struct List {
 }
 
 // The end of the line that goes on at a place.
-fn line_end(text: &[u8], at: usize) -> usize
+pub fn line_end(text: &[u8], at: usize) -> usize
     requires { ⌜ at ≤ length (now text) ⌝ }
     ensures { λ r. ⌜ (at ≤ r) × (r ≤ length (now (text .entry))) ⌝ }
 {
@@ -87,7 +87,7 @@ fn digits(line: &[u8], at: usize) -> Number
 }
 
 // The number behind a space at a place; where a kind is wanted, `-` is 0.
-fn field(line: &[u8], at: usize, wants_kind: bool) -> Number
+pub fn field(line: &[u8], at: usize, wants_kind: bool) -> Number
     requires { ⌜ at ≤ length (now line) ⌝ }
     ensures { λ r. ⌜ r .next ≤ length (now (line .entry)) ⌝ }
 {
@@ -186,7 +186,7 @@ fn is_rule(line: &[u8]) -> bool {
 }
 
 // The place past a line's end.
-fn past(text: &[u8], end: usize) -> usize
+pub fn past(text: &[u8], end: usize) -> usize
     requires { ⌜ end ≤ length (now text) ⌝ }
     ensures { λ r. ⌜ r ≡ min (end + 1) (length (now (text .entry))) ⌝ }
 {
