@@ -1,23 +1,20 @@
 -- A counted call at a depth: its body one level down where a call is left, and its refusal where none is. What spends, and where
 -- something is left. Assumes nothing.
 use mathlib.Core.Path.{_≡_, refl, subst, ap, sym, _∙_}
-use mathlib.Core.Bool.{Bool, true, false, not}
-use mathlib.Core.List.{List, []}
+use mathlib.Core.Bool.{Bool, true, false}
+use mathlib.Core.List.{[]}
 use Prim.Native.Nat.{ℕ, zero, suc, pred, _+_, _-_, _≤_, _<_}
 use native.Mathlib.Numerals.{sub-one}
 use native.Mathlib.Omega.{arith}
-use lib.Dec.{eqb}
-use Rattle.kinds.specs.Membership.{pick}
 use Rattle.kinds.specs.Kinds.{EOF, DOT3, SEMICOLON, LET-KW, L-BRACK}
 use Rattle.runtime.specs.declared.parser.Parser.{Parser}
 use Rattle.runtime.specs.Input.{Env}
 use Rattle.runtime.specs.State.{St, view, live, looked}
 use Rattle.runtime.specs.Acts as acts
-use Rattle.runtime.specs.Acts.{Acts, Does, Peeks, Steps, run, left, nth, at, eat, start, atTs, sees, _>>=_, kindAhead}
+use Rattle.runtime.specs.Acts.{Acts, Does, Peeks, run, left, nth, at, start, atTs, sees, _>>=_, kindAhead}
 use Rattle.runtime.proofs.Kept.{by-pick}
-use Rattle.runtime.proofs.Laws.{Spends, peeks, spends-nth, spends-at-ts, spends-bump, spends-stop, spends-eat, spends-act, spends-pick, spends-first, spends-rest, spends-opening, left-live, left-unless, left-on, unseen, run-bind}
+use Rattle.runtime.proofs.Laws.{Spends, peeks, spends-nth, spends-at-ts, spends-bump, spends-stop, spends-eat, spends-pick, spends-first, spends-rest, spends-opening, left-unless, left-on, unseen, run-bind}
 use Rattle.grammar.specs.declared.Mark.{Mark}
-use Rattle.grammar.specs.declared.Mark.the-variants.{Given, Fresh}
 use Rattle.grammar.specs.declared.Got.{Got}
 use Rattle.grammar.specs.declared.expressions.Op.{Op}
 use Rattle.grammar.specs.declared.params.Shape.{Shape}

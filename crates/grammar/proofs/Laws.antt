@@ -1,12 +1,11 @@
 -- What flattens a definition, and the tests of a list that change nothing. Assumes nothing.
-use mathlib.Core.Path.{_≡_, refl, ap, _∙_, sym}
+use mathlib.Core.Path.{_≡_, refl, ap, sym}
 use mathlib.Core.Bool.{Bool, true, false, not}
-use Prim.Native.Nat.{ℕ}
 use Rattle.kinds.specs.Membership.{pick}
 use Rattle.kinds.specs.Kinds.{EOF}
 use Rattle.runtime.specs.Input.{Env}
 use Rattle.runtime.specs.State.{St}
-use Rattle.runtime.specs.Acts.{Acts, Acts.done, Acts.act, _>>=_, at, sees, Does}
+use Rattle.runtime.specs.Acts.{Acts, Acts.done, Acts.act, _>>=_, sees, Does}
 use Rattle.runtime.proofs.Laws.{see}
 use Rattle.grammar.specs.declared.params.Shape.{Shape}
 use Rattle.grammar.specs.Params.{atListEnd, endsHere, listGoes, goesHere}

@@ -1,16 +1,18 @@
 -- A table of powers as words against the listing that defines it: one test that antt computes, and one law. Assumes nothing.
-use mathlib.Core.Path.{_≡_, refl, ap}
+use mathlib.Core.Path.{_≡_, refl}
+use mathlib.Core.Logic.{_⊎_, inl, inr}
 use mathlib.Core.Bool.{Bool, true, false}
 use mathlib.Core.List.{List, [], _∷_}
-use Prim.Native.Nat.{ℕ, zero, suc, _/_, _%_, _≤_, _<_}
+use Prim.Native.Nat.{ℕ, zero, suc, _+_, _/_, _%_, _≤_, _<_}
 use native.Mathlib.Omega.{arith}
 use lib.Dec.{T, eqb, ltb, leb, eqb→eq, ltb→lt, leb→le}
 use lib.Arith.{digits-div, digits-mod}
 use lib.ListN.{getD}
 use borrow.Author.Tests.{eqb-true, eqb-false, ne-eqb}
 use Rattle.kinds.proofs.Laws.{both, both-parts}
-use Rattle.kinds.specs.Membership.{pick}
-use Rattle.grammar.specs.Operators.{Power, Table, left, listed, packed, crateOrder, specificationOrder, tableOf}
+use Rattle.kinds.specs.Membership.{pick, oneOf}
+use Rattle.kinds.specs.Kinds.{EQ, PIPEEQ, SHREQ, SHLEQ, PLUSEQ, CARETEQ, PERCENTEQ, AMPEQ, SLASHEQ, STAREQ, MINUSEQ}
+use Rattle.grammar.specs.Operators.{Power, left, listed, packed, crateOrder, specificationOrder, tableOf}
 
 -- the words of mode 0 and of mode 1, as src/operators.rt has them
 abbrev pub crateWords : List ℕ
@@ -70,37 +72,66 @@ unfolding tableOf below
 no-power zero k h = past-words 55 crateOrder tt k h
 no-power (suc m) k h = past-words 55 specificationOrder tt k h
 
--- What holds of each listed row, and of no operator, holds of the table of every mode.
-unfoldable pub every : (Power → Bool) → List (ℕ × Power) → Bool
-every f [] = f (left 0)
-every f (r ∷ rs) = both (f (r .1)) (every f rs)
+-- What holds of each listed row holds of every operator of the table of every mode; what is not listed is no operator.
+unfoldable pub every : (ℕ → Power → Bool) → List (ℕ × Power) → Bool
+every f [] = true
+every f (r ∷ rs) = both (f (r .0) (r .1)) (every f rs)
 
-pub each : (f : Power → Bool) (rs : List (ℕ × Power)) → T (every f rs) → (k : ℕ) → T (f (listed rs k))
+pub each : (f : ℕ → Power → Bool) (rs : List (ℕ × Power)) → T (every f rs) → (k : ℕ) → (listed rs k ≡ left 0) ⊎ T (f k (listed rs k))
 unfolding every
-each f [] t k = t
-each f (r ∷ rs) t k = by (eqb k (r .0)) (both-parts (f (r .1)) (every f rs) t .0) (each f rs (both-parts (f (r .1)) (every f rs) t .1) k)
+each f [] t k = inl refl
+each f (r ∷ rs) t k = by (eqb k (r .0)) refl (each f rs (both-parts (f (r .0) (r .1)) (every f rs) t .1) k)
   where
-    by : (b : Bool) → T (f (r .1)) → T (f (listed rs k)) → T (f (pick b (r .1) (listed rs k)))
-    by true x y = x
-    by false x y = y
+    by : (b : Bool) → eqb k (r .0) ≡ b → (listed rs k ≡ left 0) ⊎ T (f k (listed rs k)) → (pick b (r .1) (listed rs k) ≡ left 0) ⊎ T (f k (pick b (r .1) (listed rs k)))
+    by true e y = inr (rw (eqb-true k (r .0) e) (both-parts (f (r .0) (r .1)) (every f rs) t .0))
+    by false e y = y
 
-pub in-table : (f : Power → Bool) → T (every f crateOrder) → T (every f specificationOrder) → (mode k : ℕ) → T (f (tableOf mode k))
+pub in-table : (f : ℕ → Power → Bool) → T (every f crateOrder) → T (every f specificationOrder) → (mode k : ℕ) → (tableOf mode k ≡ left 0) ⊎ T (f k (tableOf mode k))
 unfolding tableOf
 in-table f c s zero k = each f crateOrder c k
 in-table f c s (suc m) k = each f specificationOrder s k
 
--- no power lies above 254, and an operator's right side is not read below its power
-abbrev pub fair : Power → Bool
-fair q = both (leb (q .power) 254) (both (leb (q .power) (q .next)) (leb (q .next) 255))
+-- the operators that are right: the assignments
+abbrev pub assignments : List ℕ
+assignments = EQ ∷ PIPEEQ ∷ SHREQ ∷ SHLEQ ∷ PLUSEQ ∷ CARETEQ ∷ PERCENTEQ ∷ AMPEQ ∷ SLASHEQ ∷ STAREQ ∷ MINUSEQ ∷ []
 
+-- where the right side of an operator is read: a left one's is read one higher
+abbrev pub side : ℕ → ℕ
+side k = pick (oneOf assignments k) 0 1
+
+abbrev sound : ℕ → Power → Bool
+sound k q = both (leb 1 (q .power)) (both (leb (q .power) 254) (eqb (q .next) (q .power + side k)))
+
+-- The facts about a table, once over both: an operator's power lies from 1 to 254, and its right side is read one higher where it is
+-- left, and at its power where it is an assignment. What is no operator has power 0.
+pub record Sound (k : ℕ) (q : Power) : Type 0 where
+  pub least : 1 ≤ q .power
+  pub most : q .power ≤ 254
+  pub right-side : q .next ≡ q .power + side k
+
+pub operators : (mode k : ℕ) → (tableOf mode k ≡ left 0) ⊎ Sound k (tableOf mode k)
+unfolding every oneOf
+operators mode k = by (in-table sound tt tt mode k)
+  where
+    by : (tableOf mode k ≡ left 0) ⊎ T (sound k (tableOf mode k)) → (tableOf mode k ≡ left 0) ⊎ Sound k (tableOf mode k)
+    by (inl e) = inl e
+    by (inr t) =
+        let q = tableOf mode k in
+        let a = both-parts (leb 1 (q .power)) (both (leb (q .power) 254) (eqb (q .next) (q .power + side k))) t in
+        let b = both-parts (leb (q .power) 254) (eqb (q .next) (q .power + side k)) (a .1) in
+        inr (record { least = leb→le _ _ (a .0); most = leb→le _ _ (b .0); right-side = eqb→eq _ _ (b .1) })
+
+-- so no power lies above 254, and no right side is read below its operator's power
 pub all-fair : (mode k : ℕ) → (tableOf mode k .power ≤ 254) × (tableOf mode k .power ≤ tableOf mode k .next) × (tableOf mode k .next ≤ 255)
-unfolding every
-all-fair mode k =
-    let t : T (fair (tableOf mode k)) = in-table fair tt tt mode k in
-    let q = tableOf mode k in
-    let a = both-parts (leb (q .power) 254) (both (leb (q .power) (q .next)) (leb (q .next) 255)) t in
-    let b = both-parts (leb (q .power) (q .next)) (leb (q .next) 255) (a .1) in
-    (leb→le _ _ (a .0), leb→le _ _ (b .0), leb→le _ _ (b .1))
+all-fair mode k = by (operators mode k)
+  where
+    one : (b : Bool) → pick b 0 1 ≤ 1
+    one true = omega arith
+    one false = omega arith
+
+    by : (tableOf mode k ≡ left 0) ⊎ Sound k (tableOf mode k) → (tableOf mode k .power ≤ 254) × (tableOf mode k .power ≤ tableOf mode k .next) × (tableOf mode k .next ≤ 255)
+    by (inl e) = rw e (omega arith, omega arith, omega arith)
+    by (inr h) = (h .most, omega (arith, h .right-side), omega (arith, h .right-side, h .most, one (oneOf assignments k)))
 
 -- a word's two parts
 pub packed-power : (mode k : ℕ) → packed (tableOf mode k) % 256 ≡ tableOf mode k .power

@@ -1,12 +1,10 @@
 -- The depth, and the three entries: `mod entry` of src/grammar.rs, line 51, and the two that the port adds.
 -- Assumes nothing: these are definitions.
-use mathlib.Core.Bool.{Bool, true, false}
+use mathlib.Core.Bool.{false}
 use Prim.Native.Nat.{ℕ, zero, suc}
 use Rattle.kinds.specs.Kinds.{SOURCE-FILE}
 use Rattle.runtime.specs.Acts.{Acts, Acts.done, _>>=_, _>>_, start, complete, stop}
-use Rattle.grammar.specs.declared.Mark.{Mark}
 use Rattle.grammar.specs.declared.Mark.the-variants.{Fresh}
-use Rattle.grammar.specs.declared.Got.{Got}
 use Rattle.grammar.specs.declared.Got.the-variants.{Nothing}
 use Rattle.grammar.specs.Grammar.{Counted, just}
 use Rattle.grammar.specs.Operators.{Table}

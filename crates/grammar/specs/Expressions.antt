@@ -1,10 +1,9 @@
 -- src/grammar/expressions.rs. Each definition has the name of its function there. Assumes nothing: these are definitions.
-use mathlib.Core.Bool.{Bool, true, false, not, _&&_, _||_}
-use mathlib.Core.List.{List, [], _∷_}
-use Prim.Native.Nat.{ℕ, _+_}
+use mathlib.Core.Bool.{Bool, true, false, not, _&&_}
+use Prim.Native.Nat.{ℕ}
 use lib.Dec.{eqb, ltb}
 use Rattle.kinds.specs.Membership.{pick, oneOf}
-use Rattle.kinds.specs.Kinds.{EOF, SEMICOLON, COMMA, COLON, EQ, L-PAREN, R-PAREN, L-BRACK, R-BRACK, L-CURLY, R-CURLY, TILDE, BANG, MINUS, IDENT, HARDWAREIDENT, PRAGMA, ANNOTATION, LET-KW, ARRAY-KW, QUBIT-KW, COMPLEX-TY, FLOAT-TY, INT-TY, UINT-TY, ANGLE-TY, BOOL-TY, DURATION-TY, FLOAT-NUMBER, BYTE, CHAR, STRING, BIT-STRING, RANGE-EXPR, PRAGMA-STATEMENT, ANNOTATION-STATEMENT, ASSIGNMENT-STMT, EXPR-STMT, LET-STMT, IDENTIFIER, INDEXED-IDENTIFIER, BIN-EXPR, PREFIX-EXPR, LITERAL, TIMING-LITERAL, HARDWARE-QUBIT, GATE-CALL-EXPR, CALL-EXPR, ARRAY-TYPE, SCALAR-TYPE, QUBIT-TYPE, DESIGNATOR, NAME, INDEX-EXPR, SET-EXPRESSION, INDEX-OPERATOR, EXPRESSION-LIST, ARG-LIST}
+use Rattle.kinds.specs.Kinds.{SEMICOLON, COMMA, COLON, EQ, L-PAREN, R-PAREN, L-BRACK, R-BRACK, L-CURLY, R-CURLY, IDENT, HARDWAREIDENT, PRAGMA, ANNOTATION, LET-KW, ARRAY-KW, QUBIT-KW, COMPLEX-TY, FLOAT-TY, RANGE-EXPR, PRAGMA-STATEMENT, ANNOTATION-STATEMENT, ASSIGNMENT-STMT, EXPR-STMT, LET-STMT, IDENTIFIER, INDEXED-IDENTIFIER, BIN-EXPR, PREFIX-EXPR, GATE-CALL-EXPR, CALL-EXPR, ARRAY-TYPE, SCALAR-TYPE, QUBIT-TYPE, DESIGNATOR, NAME, INDEX-EXPR, SET-EXPRESSION, INDEX-OPERATOR, EXPRESSION-LIST, ARG-LIST}
 use Rattle.kinds.specs.Sets.{EXPR-FIRST, EXPR-RECOVERY-SET, CLASSICAL-TYPES, TYPES, QUBIT-FIRST, PREFIX-OPS, CAST-NEXT, ASSIGNABLE, UNINDEXED, ARRAY-BASES, NO-INTEGERS}
 use Rattle.kinds.specs.Messages.{EXPECTING-COLON-IN-RANGE-EXPRESSION, STMT-EXPECTED-EXPRESSION-TYPE-DECLARATION-OR-LET, EXPECTING-SEMICOLON-TERMINATING-STATEMENT, EXPR-BP-EXPECTED-EXPRESSION, ASSIGNMENT-STATEMENT-FOUND-WHERE-EXPRESSION-EXPECTED, ILLEGAL-LHS-IN-ASSIGNMENT, INDEXING-INTO-LITERAL-IS-NOT-ALLOWED, EXPECTED-TYPE-NAME, ILLEGAL-BASE-TYPE-FOR-ARRAY, EXPECTING-FLOAT-IN-COMPLEX-DESIGNATOR, FOUND-DESIGNATOR-IN-HARDWARE-QUBIT-DECLARATION, LITERAL-TYPE-DESIGNATOR-MUST-BE-AN-INTEGER, EXPECTING-PARAMETER-NAME}
 use Rattle.runtime.specs.declared.parser.Completed.{Completed}
@@ -75,12 +74,16 @@ castAhead = do
       k ← nth 1
       done (eqb k L-BRACK))) (done false)
 
+-- `!(a || b)`: b is asked only where a says no
+abbrev neither : Acts Bool → Acts Bool → Acts Bool
+neither a b = do
+  x ← a
+  pick x (done false) (do
+    y ← b
+    done (not y))
+
 unfoldable pub stmtLacksExpr : Acts Bool
-stmtLacksExpr = do
-  cast ← castAhead
-  pick cast (done false) (do
-    first ← atTs EXPR-FIRST
-    done (not first))
+stmtLacksExpr = neither castAhead (atTs EXPR-FIRST)
 
 -- the end of fn stmt, line 105
 unfoldable pub noSemicolon : Bool → Bool → Acts (Unit {0})

@@ -5,7 +5,7 @@ use mathlib.Core.List.{List}
 use Prim.Native.Nat.{ℕ}
 use lib.Dec.{eqb}
 use Rattle.kinds.specs.Membership.{pick, oneOf}
-use Rattle.kinds.specs.Kinds.{EOF, THIN-ARROW, IDENT, HARDWAREIDENT, HARDWARE-QUBIT, NAME, RETURN-SIGNATURE, BLOCK-EXPR}
+use Rattle.kinds.specs.Kinds.{THIN-ARROW, IDENT, HARDWAREIDENT, HARDWARE-QUBIT, NAME, RETURN-SIGNATURE, BLOCK-EXPR}
 use Rattle.kinds.specs.Sets.{EMPTY, SCALAR-TYPES, TYPES}
 use Rattle.kinds.specs.Messages.{EXPECTED, EXPECTED-SCALAR-RETURN-TYPE-AFTER-ARROW, EXPECTED-A-NAME}
 use Rattle.runtime.specs.Acts.{Acts, Acts.done, _>>=_, _>>_, at, atTs, current, bump, expect, start, complete, abandon, error, errRecover, goesOn, Turn, Turn.more, Turn.last, repeats}

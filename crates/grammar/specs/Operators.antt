@@ -1,6 +1,5 @@
 -- The operators: fn current_op of src/grammar/expressions.rs, line 167, and the powers of both modes (docs/RULES.md, section 8).
 -- Assumes nothing: these are definitions.
-use mathlib.Core.Bool.{Bool, true, false}
 use mathlib.Core.List.{List, [], _∷_}
 use Prim.Native.Nat.{ℕ, zero, suc, _+_, _*_}
 use lib.Dec.{eqb}

@@ -1,5 +1,5 @@
 -- src/grammar/params.rs. Each definition has the name of its function there. Assumes nothing: these are definitions.
-use mathlib.Core.Bool.{Bool, true, false, not, _&&_, _||_}
+use mathlib.Core.Bool.{Bool, true, false, not, _&&_}
 use Prim.Native.Nat.{ℕ, _+_}
 use lib.Dec.{ltb}
 use Rattle.kinds.specs.Membership.{pick, oneOf}
