@@ -8,6 +8,7 @@ use native.Mathlib.Numerals.{sub-one}
 use native.Mathlib.Omega.{arith}
 use Rattle.kinds.specs.Kinds.{EOF, DOT3, SEMICOLON, LET-KW, L-BRACK}
 use Rattle.runtime.specs.declared.parser.Parser.{Parser}
+use Rattle.runtime.specs.declared.parser.Stop.the-variants.{Deep}
 use Rattle.runtime.specs.Input.{Env}
 use Rattle.runtime.specs.State.{St, view, live, looked}
 use Rattle.runtime.specs.Acts as acts
@@ -64,13 +65,13 @@ falls-after-peeks e m p n h l k d = falls-after e m (view p []) n h l k (peeks e
 -- an expression: its first lookup
 pub exprBp-spends : (ops : Table) (n : ℕ) (m : Mark) (prefer : Bool) (bp : ℕ) → Spends (counted ops n .exprBp m prefer bp)
 unfolding counted E.exprBp E.lacksExpr
-exprBp-spends ops zero m prefer bp = spends-first _ _ (spends-stop 6 acts.Acts.done (λ z. omega arith))
+exprBp-spends ops zero m prefer bp = spends-first _ _ (spends-stop Deep acts.Acts.done)
 exprBp-spends ops (suc n) m prefer bp = spends-rest (E.marker m) _ (λ x. spends-first E.lacksExpr _ (spends-first (atTs _) _ (spends-at-ts _)))
 
 -- a statement: its semicolon, the keyword of a `let`, or the first lookup of an item
 pub stmt-spends : (ops : Table) (n : ℕ) → Spends (counted ops n .stmt)
 unfolding counted E.stmt E.letStmt I.optItem
-stmt-spends ops zero = spends-stop 6 acts.Acts.done (λ z. omega arith)
+stmt-spends ops zero = spends-stop Deep acts.Acts.done
 stmt-spends ops (suc n) =
     spends-eat SEMICOLON _
     (spends-rest (at LET-KW) _ (λ b. spends-pick b _ _

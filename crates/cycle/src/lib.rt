@@ -20,6 +20,7 @@ use kinds::syntax_kind_enum as k;
 use runtime::parser::Completed;
 use runtime::parser::Done;
 use runtime::parser::Parser;
+use runtime::parser::Stop;
 use runtime::parser::Told;
 ghost use mathlib.Core.Path.{_≡_};
 ghost use Prim.Native.Nat.{_≤_};
@@ -51,7 +52,7 @@ pub fn expr_bp(
     ensures { λ r. ⌜ Does (env (now (kinds .entry)) (now (joints .entry))) (counted (tableOf mode) left .exprBp given prefer bp) (view p (now (room .entry))) (r .got) (view (r .p) (now (room .exit))) ⌝ }
 {
     if left == 0 {
-        let q = p.stop(room, 6);
+        let q = p.stop(room, Stop::Deep);
         return Parsed {
             p: q,
             got: Got::Nothing,
@@ -398,7 +399,7 @@ fn els(kinds: &[u16], joints: &[u64], room: &mut [u32], p: Parser, mode: u8, lef
     ensures { λ r. ⌜ Does (env (now (kinds .entry)) (now (joints .entry))) (counted (tableOf mode) left .expressionList) (view p (now (room .entry))) tt (view r (now (room .exit))) ⌝ }
 {
     if left == 0 {
-        return p.stop(room, 6);
+        return p.stop(room, Stop::Deep);
     }
     let d = left - 1;
     list(kinds, joints, room, p, mode, d, DefFlavor::ExpressionList)
@@ -1063,7 +1064,7 @@ fn type_spec(
     ensures { λ r. ⌜ Does (env (now (kinds .entry)) (now (joints .entry))) (counted (tableOf mode) left .typeSpec) (view p (now (room .entry))) tt (view r (now (room .exit))) ⌝ }
 {
     if left == 0 {
-        return p.stop(room, 6);
+        return p.stop(room, Stop::Deep);
     }
     let d = left - 1;
     if p.at(kinds, joints, k::ARRAY_KW) {
@@ -1123,7 +1124,7 @@ fn cplx(kinds: &[u16], joints: &[u64], room: &mut [u32], p: Parser, mode: u8, le
     ensures { λ r. ⌜ Does (env (now (kinds .entry)) (now (joints .entry))) (counted (tableOf mode) left .complexTypeSpec) (view p (now (room .entry))) tt (view r (now (room .exit))) ⌝ }
 {
     if left == 0 {
-        return p.stop(room, 6);
+        return p.stop(room, Stop::Deep);
     }
     let d = left - 1;
     let p1 = p.must(kinds, joints, room, k::COMPLEX_TY);
@@ -1279,7 +1280,7 @@ fn if_stmt(
     ensures { λ r. ⌜ Does (env (now (kinds .entry)) (now (joints .entry))) (counted (tableOf mode) left .ifStmt m) (view p (now (room .entry))) tt (view r (now (room .exit))) ⌝ }
 {
     if left == 0 {
-        return p.stop(room, 6);
+        return p.stop(room, Stop::Deep);
     }
     let d = left - 1;
     let p1 = p.must(kinds, joints, room, k::IF_KW);
@@ -1539,7 +1540,7 @@ fn stmt(kinds: &[u16], joints: &[u64], room: &mut [u32], p: Parser, mode: u8, le
     ensures { λ r. ⌜ Does (env (now (kinds .entry)) (now (joints .entry))) (counted (tableOf mode) left .stmt) (view p (now (room .entry))) tt (view r (now (room .exit))) ⌝ }
 {
     if left == 0 {
-        return p.stop(room, 6);
+        return p.stop(room, Stop::Deep);
     }
     let d = left - 1;
     let t = p.eat(kinds, joints, room, k::SEMICOLON);

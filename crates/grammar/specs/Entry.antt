@@ -4,6 +4,7 @@ use mathlib.Core.Bool.{false}
 use Prim.Native.Nat.{ℕ, zero, suc}
 use Rattle.kinds.specs.Kinds.{SOURCE-FILE}
 use Rattle.runtime.specs.Acts.{Acts, Acts.done, _>>=_, _>>_, start, complete, stop}
+use Rattle.runtime.specs.declared.parser.Stop.the-variants.{Deep}
 use Rattle.grammar.specs.declared.Mark.the-variants.{Fresh}
 use Rattle.grammar.specs.declared.Got.the-variants.{Nothing}
 use Rattle.grammar.specs.Grammar.{Counted, just}
@@ -21,12 +22,12 @@ later deeper = record { atomExpr = A.atomExpr deeper; argListGateCallQubits = P.
 unfoldable pub counted : Table → ℕ → Counted
 counted ops zero =
     record {
-      exprBp = λ m prefer bp. (stop 6 >> done Nothing);
-      stmt = stop 6;
-      typeSpec = stop 6;
-      complexTypeSpec = stop 6;
-      ifStmt = λ m. stop 6;
-      expressionList = stop 6;
+      exprBp = λ m prefer bp. (stop Deep >> done Nothing);
+      stmt = stop Deep;
+      typeSpec = stop Deep;
+      complexTypeSpec = stop Deep;
+      ifStmt = λ m. stop Deep;
+      expressionList = stop Deep;
     }
 counted ops (suc n) =
     record {

@@ -56,6 +56,24 @@ pub struct Told {
     pub yes: bool,
 }
 
+// Why the grammar stops a run: a counted call begins too deep, or an assertion fails.
+pub enum Stop {
+    Deep,
+    Panic,
+}
+
+impl Stop {
+    // The refusal's number.
+    fn number(self) -> u32
+        ensures { λ r. ⌜ r ≡ state.stopNumber self ⌝ }
+    {
+        match self {
+            Stop::Deep => 6,
+            Stop::Panic => 8,
+        }
+    }
+}
+
 impl Completed {
     pub fn kind(self) -> u16
         ensures { λ r. ⌜ r ≡ self .kind ⌝ }
@@ -98,13 +116,14 @@ impl Parser {
     }
 
     // Refuses the run, if it is not refused yet.
-    pub fn stop(self, room: &mut [u32], n: u32) -> Parser
+    pub fn stop(self, room: &mut [u32], why: Stop) -> Parser
         requires { ⌜ Fit self ⌝ }
-        ensures { λ r. ⌜ Steps (acts.stop n) (view self (now (room .entry))) tt (view r (now (room .exit))) ⌝ }
+        ensures { λ r. ⌜ Steps (acts.stop why) (view self (now (room .entry))) tt (view r (now (room .exit))) ⌝ }
     {
         if self.refused != 0 {
             return self;
         }
+        let n = why.number();
         self.refuse(n)
     }
 
@@ -244,7 +263,7 @@ impl Parser {
         if t.yes {
             return p;
         }
-        p.stop(room, 8)
+        p.stop(room, Stop::Panic)
     }
 
     // Consumes the token here, if there is one: one lookup.
@@ -462,7 +481,7 @@ impl Parser {
         if self.at(kinds, joints, kind) {
             return self;
         }
-        self.stop(room, 8)
+        self.stop(room, Stop::Panic)
     }
 
     // A test of the grammar's loops: neither the end nor a kind stands here.

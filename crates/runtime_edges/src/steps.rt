@@ -2,6 +2,7 @@
 use kinds::sets::Fixed;
 use runtime::parser::Completed;
 use runtime::parser::Parser;
+use runtime::parser::Stop;
 ghost use Prim.Native.Nat.{_≤_};
 ghost use Rattle.runtime.specs.State.{Fit};
 
@@ -270,11 +271,21 @@ pub fn must(p: Parser, kinds: &[u16], joints: &[u64], room: &mut [u32], kind: u1
     end(q)
 }
 
+fn stopped(p: Parser, room: &mut [u32], n: u32) -> Parser
+    requires { ⌜ Fit p ⌝ }
+    ensures { λ r. ⌜ Fit r ⌝ }
+{
+    if n == 6 {
+        return p.stop(room, Stop::Deep);
+    }
+    p.stop(room, Stop::Panic)
+}
+
 pub fn stop(p: Parser, room: &mut [u32], n: u32) -> Parser
     requires { ⌜ Fit p ⌝ }
     ensures { λ r. ⌜ Fit r ⌝ }
 {
-    let q = p.stop(room, n);
+    let q = stopped(p, room, n);
     say(b"  stop");
     number(n as u64);
     end(q)

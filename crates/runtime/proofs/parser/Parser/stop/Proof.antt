@@ -7,11 +7,14 @@ use Rattle.runtime.proofs.parser.Parser.stop.Tie as tie
 returns : tie.Need-returns
 returns c = stop-still _ _ (c .before .before .before .pre) (c .if1 .taken)
 
+number-requires : tie.Need-number-requires
+number-requires c κs = search needs
+
 refuse-requires : tie.Need-refuse-requires
 refuse-requires c κs = search needs
 
 returns-2 : tie.Need-returns-2
-returns-2 c = rw (c .refuse .ensures) (stop-done _ _ (c .before .before .before .before .pre) (c .before .if1 .left))
+returns-2 c = rw (c .refuse .ensures, c .before .number .ensures) (stop-done _ _ (c .before .before .before .before .before .pre) (c .before .before .if1 .left))
 
 pub stop-spec : {M : Type 1} → statement M
-stop-spec = tie.close (tie.spec returns refuse-requires returns-2)
+stop-spec = tie.close (tie.spec returns number-requires refuse-requires returns-2)
