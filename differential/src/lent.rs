@@ -39,13 +39,15 @@ impl<T: Copy + PartialEq> Lent<T> {
         all[..self.from] == self.before[..self.from] && all[self.from..end] == *first && all[end..] == self.before[end..]
     }
 
-    /// Whether `first` stands at the room's front and `rest` in every further place of it, and what stands beside it is as it was.
+    /// Whether `first` stands at the room's front and `rest` in every further place of it.
     pub fn holds_then(&self, first: &[T], rest: T) -> bool {
-        let (all, end) = (std::hint::black_box(&self.all), self.from + first.len());
-        end <= self.to
-            && all[..self.from] == self.before[..self.from]
-            && all[self.from..end] == *first
-            && all[end..self.to].iter().all(|&word| word == rest)
-            && all[self.to..] == self.before[self.to..]
+        let now = self.room_now();
+        now.starts_with(first) && now[first.len()..].iter().all(|&word| word == rest)
+    }
+
+    /// Whether what stands beside the room is as it was.
+    pub fn kept_beside(&self) -> bool {
+        let all = std::hint::black_box(&self.all);
+        all[..self.from] == self.before[..self.from] && all[self.to..] == self.before[self.to..]
     }
 }

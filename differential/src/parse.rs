@@ -3,7 +3,7 @@
 
 use crate::lent::Lent;
 use crate::port;
-use answer::{kinds, permitted, read_steps, with_stack, End, Entry, ENTRIES, LOOKUPS};
+use answer::{kinds, permitted, read_steps, with_stack, Entry, ENTRIES};
 use differential::case::{hexes, numbers, Case};
 use differential::replay::{self, LARGEST};
 use differential::rng::Rng;
@@ -244,9 +244,14 @@ fn one(parse: Parse, call: &Call, steps: bool, rng: &mut Rng, seen: &mut Seen) -
     if !kinds.holds(&[]) || !joints.holds(&[]) {
         return fault("the tokens are not as they were");
     }
+    if !room.kept_beside() {
+        return fault("what stands beside the room is not as it was");
+    }
     match (must.code, &must.done) {
         (0, Some((words, _))) if !room.holds_then(words, 0) => {
-            return fault(&format!("its list must be {}, and zero behind", numbers(words)))
+            let must = |at: usize| words.get(at).copied().unwrap_or(0);
+            let (at, word) = room.room_now().iter().copied().enumerate().find(|&(at, word)| word != must(at)).expect("a word");
+            return fault(&format!("word {at} of the room is {word} and must be {}", must(at)));
         }
         (5..=8, _) if !room.holds_then(&[], 0) => return fault("it refuses and the room is not all zero"),
         (1..=4 | 100 | 101, _) if !room.holds(&[]) => return fault("it refuses and the room is not as it was"),
@@ -273,8 +278,8 @@ fn compare(parse: Parse, case: &Case, rng: &mut Rng, seen: &mut Seen) -> Result<
     let answers = 3 + rng.below(4);
     // what no parse runs has no peak
     let runs = !matches!(replay::parse(case, 0, 0).code, 1..=4);
-    if runs {
-        whole(case)?;
+    if runs && !replay::agrees(case, LARGEST) {
+        return Err(format!("{}: the crate and what the port must say differ", case.line()));
     }
     for mode in 0..=1 {
         let peak = if runs { replay::run(case, mode as u64, LARGEST).peak } else { rng.below(20) };
@@ -332,27 +337,6 @@ fn compare(parse: Parse, case: &Case, rng: &mut Rng, seen: &mut Seen) -> Result<
         one(parse, &Call { entry, mode, kinds: &kinds, joints: &joints, room: words(rng), answers }, false, rng, seen)?;
     }
     Ok(())
-}
-
-/// Holds what the port must say in mode 0 to the crate as it is: done with its list and its steps, 8 where it panics, 7 at the step limit,
-/// unless a 5, 6 or 7 came first.
-fn whole(case: &Case) -> Result<(), String> {
-    let crates = oq3_parser::entries::parse(case.entry, &case.kinds, &case.joints, LOOKUPS);
-    let said = replay::parse(case, 0, LARGEST);
-    let good = match (said.code, &said.run) {
-        (0, Some(run)) => {
-            crates.end == End::Done
-                && (crates.tokens, crates.lookups) == (said.place, run.lookups)
-                && (&crates.words, &crates.steps) == (&run.words, &run.steps)
-        }
-        (7, _) => crates.end == End::Lookups && crates.tokens == said.place,
-        (8, _) => matches!(crates.end, End::Panic(_)) && crates.tokens == said.place,
-        (code, _) => matches!(code, 5 | 6) && said.place <= crates.tokens,
-    };
-    if good {
-        return Ok(());
-    }
-    Err(format!("{}: the crate and what the port must say differ", case.line()))
 }
 
 /// A number that is no mode; some are one in fewer bits.

@@ -46,6 +46,28 @@ pub fn run(case: &Case, mode: u64, room: usize) -> Run {
     parse(case.entry, &case.kinds, &case.joints, bounds)
 }
 
+/// Whether what the port must say in mode 0, in a room of that many words, is what the crate does that nothing stops but the bound of
+/// lookups: done with its list and its steps, 8 where it panics, 7 where the bound is passed, unless a 5, 6 or 7 came first.
+pub fn agrees(case: &Case, room: usize) -> bool {
+    let said = parse(case, 0, room);
+    if (1..=4).contains(&said.code) {
+        return true;
+    }
+    let crates = oq3_parser::entries::parse(case.entry, &case.kinds, &case.joints, LOOKUPS);
+    let (end, at) = (&crates.end, crates.tokens == said.place);
+    match (said.code, &said.run) {
+        (0, Some(run)) => {
+            *end == End::Done
+                && at
+                && (crates.lookups, crates.events) == (run.lookups, run.events)
+                && (&crates.words, &crates.steps) == (&run.words, &run.steps)
+        }
+        (7, _) => *end == End::Lookups && at,
+        (8, _) => matches!(end, End::Panic(_)) && at,
+        _ => said.place <= crates.tokens,
+    }
+}
+
 /// The words of the largest room that is of use.
 pub const LARGEST: usize = 131_072;
 

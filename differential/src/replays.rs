@@ -18,10 +18,14 @@ const TOKENS: usize = 8_256;
 pub fn run(folder: &Path) -> bool {
     let lines = lines();
     let answers: Vec<String> = lines.iter().map(|line| answer(line)).collect();
-    let refused = |number: &str| answers.iter().filter(|a| a.split(' ').next() == Some(number)).count();
-    let said: Vec<String> = (0..=10).map(|n| format!("{n} {}", refused(&n.to_string()))).collect();
-    let bad = answers.iter().filter(|a| *a == "bad line").count();
-    println!("differential: {} recorded lines of replay, {bad} bad; numbers said: {}", lines.len(), said.join(", "));
+    let times = |said: &str| answers.iter().filter(|answer| answer.split(' ').next() == Some(said)).count();
+    let numbers: Vec<usize> = (0..=10).map(|number| times(&number.to_string())).collect();
+    let said: Vec<String> = numbers.iter().enumerate().map(|(number, times)| format!("{number} {times}")).collect();
+    println!("differential: {} recorded lines of replay, {} bad; numbers said: {}", lines.len(), times("bad"), said.join(", "));
+    if numbers.contains(&0) {
+        println!("differential: the recorded lines miss a number");
+        return false;
+    }
     write(folder, vec![("stdin".to_string(), lines), ("stdout".to_string(), answers)])
 }
 
@@ -46,7 +50,9 @@ impl Lines {
         }
     }
 
+    /// A parse. In mode 0 its answer is held to the crate that is not watched.
     fn parse(&mut self, case: &Case, mode: u32, room: usize) {
+        assert!(mode != 0 || replay::agrees(case, room), "the crate and what the port must say differ: {}", case.line());
         self.add(format!("parse {} {mode} {room} {} {}", case.entry.name(), numbers(&case.kinds), hexes(&case.joints)));
     }
 
