@@ -13,20 +13,26 @@ pub struct Said {
     pub run: Option<Run>,
 }
 
+/// What a parse refuses before it runs, with its place: numbers 1 to 4, in this order.
+pub fn before(case: &Case, mode: u64) -> Option<(u8, usize)> {
+    if mode > 1 {
+        return Some((1, 0));
+    }
+    if case.kinds.len() > generate::TOKENS {
+        return Some((2, 0));
+    }
+    if case.joints.len() < case.kinds.len().div_ceil(64) {
+        return Some((3, 0));
+    }
+    let permitted = |&kind: &u16| kinds().get(kind as usize).is_some_and(|row| row.permitted);
+    case.kinds.iter().position(|kind| !permitted(kind)).map(|place| (4, place))
+}
+
 /// A parse in a mode, with a room of that many words.
 pub fn parse(case: &Case, mode: u64, room: usize) -> Said {
     let refused = |code, place| Said { code, place, run: None };
-    if mode > 1 {
-        return refused(1, 0);
-    }
-    if case.kinds.len() > generate::TOKENS {
-        return refused(2, 0);
-    }
-    if case.joints.len() < case.kinds.len().div_ceil(64) {
-        return refused(3, 0);
-    }
-    if let Some(place) = case.kinds.iter().position(|&k| !kinds().get(k as usize).is_some_and(|row| row.permitted)) {
-        return refused(4, place);
+    if let Some((code, place)) = before(case, mode) {
+        return refused(code, place);
     }
     let run = run(case, mode, room);
     match run.end {
@@ -39,7 +45,7 @@ pub fn parse(case: &Case, mode: u64, room: usize) -> Said {
     }
 }
 
-/// The run of a case that a parse does not refuse before it, as it stands where the rules stop it.
+/// The run of a case that is not refused before it, as it stands where the rules stop it.
 pub fn run(case: &Case, mode: u64, room: usize) -> Run {
     let bounds = Bounds { room: (room / 2).min(65_536), depth: 64, ..LOOKUPS };
     let parse = if mode == 0 { oq3_watched::entries::parse } else { oq3_mode1::entries::parse };
@@ -49,10 +55,10 @@ pub fn run(case: &Case, mode: u64, room: usize) -> Run {
 /// Whether what the port must say in mode 0, in a room of that many words, is what the crate does that nothing stops but the bound of
 /// lookups: done with its list and its steps, 8 where it panics, 7 where the bound is passed, unless a 5, 6 or 7 came first.
 pub fn agrees(case: &Case, room: usize) -> bool {
-    let said = parse(case, 0, room);
-    if (1..=4).contains(&said.code) {
+    if before(case, 0).is_some() {
         return true;
     }
+    let said = parse(case, 0, room);
     let crates = oq3_parser::entries::parse(case.entry, &case.kinds, &case.joints, LOOKUPS);
     let (end, at) = (&crates.end, crates.tokens == said.place);
     match (said.code, &said.run) {
