@@ -184,7 +184,7 @@ struct Call<'a> {
 }
 
 impl Call<'_> {
-    /// The call as a line of `replay`, where there is one.
+    /// The call as a line of `replay`, where there is one, and the size of the answer room where it is not the program's.
     fn line(&self) -> String {
         let entry = ENTRIES.get(self.entry as usize).map_or(format!("entry {}", self.entry), |entry| entry.name().to_string());
         let shown = &self.kinds[..self.kinds.len().min(400)];
@@ -194,7 +194,7 @@ impl Call<'_> {
         if self.answers == 3 {
             line
         } else {
-            format!("{line}, {} words for the answer", self.answers)
+            format!("{line} ({} words for the answer)", self.answers)
         }
     }
 
