@@ -3,16 +3,20 @@
 use answer::{set_hook, with_stack};
 
 mod events;
+mod lent;
+mod parse;
 mod port;
 mod wrong;
+mod wrong_parse;
 
 fn main() {
     set_hook();
     let words: Vec<String> = std::env::args().skip(1).collect();
     let words: Vec<&str> = words.iter().map(String::as_str).collect();
     let good = with_stack(|| match words[..] {
-        ["events", count, seed] => match (count.parse(), seed.parse()) {
-            (Ok(count), Ok(seed)) => wrong::run(seed) && events::run(count, seed),
+        [what, count, seed] => match (what, count.parse(), seed.parse()) {
+            ("events", Ok(count), Ok(seed)) => wrong::run(seed) && events::run(count, seed),
+            ("parse", Ok(count), Ok(seed)) => wrong_parse::run(seed) && parse::run(count, seed),
             _ => usage(),
         },
         _ => usage(),
@@ -21,6 +25,6 @@ fn main() {
 }
 
 fn usage() -> bool {
-    eprintln!("usage: compare events COUNT SEED");
+    eprintln!("usage: compare events|parse COUNT SEED");
     false
 }

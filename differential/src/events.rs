@@ -1,6 +1,7 @@
 //! The port's check and resolution against the crate's `process` and the rules, on short, random and very long lists of events: numbers,
 //! places, and every word and byte that is lent.
 
+use crate::lent::Lent;
 use crate::port;
 use answer::{Ev, FAULT, START};
 use differential::case::numbers;
@@ -223,44 +224,6 @@ fn same(call: &str, what: &str, good: bool) -> Result<(), String> {
         return Ok(());
     }
     Err(format!("{call}: {what} is not as it must be"))
-}
-
-/// A lent room: random numbers stand in it, or what is put in, and on both sides of it.
-struct Lent<T> {
-    all: Vec<T>,
-    before: Vec<T>,
-    from: usize,
-    to: usize,
-}
-
-impl<T: Copy + PartialEq> Lent<T> {
-    fn new(inside: &[T], rng: &mut Rng, number: fn(u64) -> T) -> Lent<T> {
-        let mut lent = Lent::fresh(inside.len(), rng, number);
-        lent.all[lent.from..lent.to].copy_from_slice(inside);
-        lent.before[lent.from..lent.to].copy_from_slice(inside);
-        lent
-    }
-
-    fn fresh(length: usize, rng: &mut Rng, number: fn(u64) -> T) -> Lent<T> {
-        let from = 1 + rng.below(9);
-        let all: Vec<T> = (0..from + length + 9).map(|_| number(rng.next() >> 7)).collect();
-        Lent { before: all.clone(), all, from, to: from + length }
-    }
-
-    fn room(&mut self) -> &mut [T] {
-        &mut self.all[self.from..self.to]
-    }
-
-    /// What stands there now. The compiler may not think that a call has kept what was lent to be read.
-    fn room_now(&self) -> &[T] {
-        &std::hint::black_box(&self.all)[self.from..self.to]
-    }
-
-    /// Whether `first` stands at the room's front, and everything else is as it was.
-    fn holds(&self, first: &[T]) -> bool {
-        let (all, end) = (std::hint::black_box(&self.all), self.from + first.len());
-        all[..self.from] == self.before[..self.from] && all[self.from..end] == *first && all[end..] == self.before[end..]
-    }
 }
 
 /// Makes a list smaller as long as it is still a bad one: leaves out events, many at a time and then few, sets distances to 0, and leaves

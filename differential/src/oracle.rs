@@ -6,6 +6,7 @@ use differential::{replay, text};
 use std::io::{BufRead, Write};
 
 mod record;
+mod replays;
 mod same;
 mod search;
 mod tests;
@@ -21,6 +22,7 @@ fn main() {
             (Ok(count), Ok(seed)) => same::run(count, seed),
             _ => usage(),
         },
+        ["replay", folder] => replays::run(std::path::Path::new(folder)),
         ["record", folder] => record::run(std::path::Path::new(folder), answer_line_of),
         ["search", ref words @ ..] => search::run(words) || usage(),
         _ => usage(),
@@ -33,6 +35,7 @@ fn usage() -> bool {
     eprintln!("       oracle test");
     eprintln!("       oracle same COUNT SEED");
     eprintln!("       oracle record FOLDER");
+    eprintln!("       oracle replay FOLDER");
     eprintln!("       oracle search short all|rest|reduced|expressions|types LENGTH [ENTRY]");
     eprintln!("       oracle search random COUNT SEED");
     false

@@ -12,6 +12,18 @@ extern "C" {
         answer: *mut u64,
         answer_length: usize,
     ) -> u32;
+    fn oq3_parse(
+        entry: u32,
+        mode: u32,
+        kinds: *const u16,
+        kinds_length: usize,
+        joints: *const u64,
+        joints_length: usize,
+        room: *mut u32,
+        room_length: usize,
+        answer: *mut u64,
+        answer_length: usize,
+    ) -> u32;
 }
 
 /// The list check: its number. The place is the first word of `answer`; where that has none, 100 is said and nothing is done.
@@ -24,4 +36,12 @@ pub fn check(words: &[u32], answer: &mut [u64]) -> u32 {
 pub fn resolve(words: &mut [u32], steps: &mut [u8], answer: &mut [u64]) -> u32 {
     // SAFETY: as in `check`.
     unsafe { oq3_resolve(words.as_mut_ptr(), words.len(), steps.as_mut_ptr(), steps.len(), answer.as_mut_ptr(), answer.len()) }
+}
+
+/// A parse: its number. The first three words of `answer` are the place, the events and the lookups; where it has fewer, 100 is said and
+/// nothing is done. An entry above 2 is 101.
+pub fn parse(entry: u32, mode: u32, kinds: &[u16], joints: &[u64], room: &mut [u32], answer: &mut [u64]) -> u32 {
+    let (k, j, r, a) = (kinds.as_ptr(), joints.as_ptr(), room.as_mut_ptr(), answer.as_mut_ptr());
+    // SAFETY: as in `check`.
+    unsafe { oq3_parse(entry, mode, k, kinds.len(), j, joints.len(), r, room.len(), a, answer.len()) }
 }

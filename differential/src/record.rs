@@ -8,7 +8,7 @@ use std::collections::HashSet;
 use std::path::Path;
 
 /// Cases that are worth having by name: the small runs of docs/RULES.md, the panics, operators, a program.
-const NAMED: [(&str, &str); 34] = [
+pub const NAMED: [(&str, &str); 34] = [
     ("item", "break ;"),
     ("item", ""),
     ("item", "}"),
@@ -138,6 +138,11 @@ pub fn run(folder: &Path, answer: impl Fn(&str) -> String) -> bool {
         files.push((format!("{name}.out"), lines.iter().map(|line| answer(line)).collect()));
         files.push((format!("{name}.in"), lines));
     }
+    write(folder, files)
+}
+
+/// Writes files of lines.
+pub fn write(folder: &Path, files: Vec<(String, Vec<String>)>) -> bool {
     for (name, lines) in files {
         if let Err(error) = std::fs::write(folder.join(&name), lines.join("\n") + "\n") {
             eprintln!("oracle: {name}: {error}");
