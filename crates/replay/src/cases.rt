@@ -1,0 +1,336 @@
+// The cases: each is read off its line, run in rooms of its own, and its answer put behind what is to be written.
+use crate::read::Numbers;
+use crate::read::decimals;
+use crate::read::joints;
+use crate::read::narrow;
+use crate::read::past_words;
+use crate::show::put;
+use crate::show::put_bytes;
+use crate::show::put_field;
+use crate::show::put_number;
+use crate::show::put_text;
+use crate::show::put_words;
+use lines::read::field;
+use parse::Entry;
+ghost use mathlib.Core.Path.{_≡_};
+ghost use Prim.Native.Nat.{_≤_};
+ghost use lib.ListN.{length};
+
+// What a parse's room has before the call, and a byte of the step room.
+const WORD: u32 = 3735928559;
+
+const BYTE: u8 = 165;
+
+// How a call left what it was lent.
+enum State {
+    List,
+    Zero,
+    Same,
+    Bare,
+    Other,
+}
+
+fn put_state(out: &mut [u8], at: usize, s: State) -> usize {
+    match s {
+        State::List => put_text(out, at, b" list"),
+        State::Zero => put_text(out, at, b" zero"),
+        State::Same => put_text(out, at, b" same"),
+        State::Bare => put_text(out, at, b" bare"),
+        State::Other => put_text(out, at, b" other"),
+    }
+}
+
+fn put_bad(out: &mut [u8], at: usize) -> usize {
+    put_text(out, at, b"bad line")
+}
+
+// A code and a place.
+fn put_place(out: &mut [u8], at: usize, code: u32, place: u64) -> usize {
+    let n = put_number(out, at, code as u64);
+    put_field(out, n, place)
+}
+
+// Whether every word, and every byte, is the one given.
+fn all_words(words: &[u32], w: u32) -> bool {
+    let mut i = 0;
+    while i < words.len() {
+        if words[i] != w {
+            return false;
+        }
+        i += 1;
+    }
+    true
+}
+
+fn all_bytes(bytes: &[u8], b: u8) -> bool {
+    let mut i = 0;
+    while i < bytes.len() {
+        if bytes[i] != b {
+            return false;
+        }
+        i += 1;
+    }
+    true
+}
+
+// The word at a place of a list of bare tombstones.
+fn bare_word(i: usize) -> u32 {
+    if i % 2 == 0 { 65536 } else { 0 }
+}
+
+fn all_bare(words: &[u32]) -> bool {
+    let mut i = 0;
+    while i < words.len() {
+        if words[i] != bare_word(i) {
+            return false;
+        }
+        i += 1;
+    }
+    true
+}
+
+// Whether two lists are equal.
+fn equal(a: &[u32], b: &[u32]) -> bool {
+    if a.len() != b.len() {
+        return false;
+    }
+    let mut i = 0;
+    while i < a.len() {
+        if a[i] != b[i] {
+            return false;
+        }
+        i += 1;
+    }
+    true
+}
+
+// The first state that holds of two, the one that a call must leave first.
+fn either(a: bool, x: State, b: bool, y: State) -> State {
+    if a {
+        return x;
+    }
+    if b {
+        return y;
+    }
+    State::Other
+}
+
+// How a parse left the words that are no events.
+fn rest_state(code: u32, rest: &[u32]) -> State {
+    let zero = all_words(rest, 0);
+    let same = all_words(rest, WORD);
+    if code == 0 {
+        return either(zero, State::List, false, State::Other);
+    }
+    if code >= 5 {
+        return either(zero, State::Zero, same, State::Same);
+    }
+    either(same, State::Same, zero, State::Zero)
+}
+
+// The words of the events that an answer has.
+fn event_words(a: parse::Answer) -> usize {
+    if a.code == 0 {
+        return 2 * a.events as usize;
+    }
+    0
+}
+
+fn put_parse(out: &mut [u8], at: usize, a: parse::Answer, room: &[u32]) -> usize {
+    let n = put_place(out, at, a.code, a.place as u64);
+    let n = put_field(out, n, a.events as u64);
+    let n = put_field(out, n, a.lookups as u64);
+    let k = event_words(a);
+    if k > room.len() {
+        return put_text(out, n, b" other -");
+    }
+    let s = rest_state(a.code, &room[k..]);
+    let n = put_state(out, n, s);
+    let n = put(out, n, b' ');
+    put_words(out, n, &room[0..k])
+}
+
+// Parses, and puts the answer.
+fn run_parse(
+    entry: Entry,
+    mode: u32,
+    kinds: &[u16],
+    joints: &[u64],
+    room: &mut [u32],
+    out: &mut [u8],
+    put: usize,
+) -> usize {
+    let a = parse::parse(entry, mode, kinds, joints, room);
+    put_parse(out, put, a, room)
+}
+
+fn parse_case(line: &[u8], at: usize, entry: Entry, out: &mut [u8], put: usize) -> usize
+    requires { ⌜ at ≤ length (now line) ⌝ }
+{
+    let mut words = [0u32; 8256];
+    let mut kinds = [0u16; 8256];
+    let mut bits = [0u64; 256];
+    let mut room = [WORD; 131080];
+    let mode = field(line, at, false);
+    if !mode.ok {
+        return put_bad(out, put);
+    }
+    let size = field(line, mode.next, false);
+    if !size.ok {
+        return put_bad(out, put);
+    }
+    let r = size.value as usize;
+    if r > 131080 {
+        return put_bad(out, put);
+    }
+    let k = decimals(line, size.next, &mut words);
+    let n = k.count;
+    if !k.ok {
+        return put_bad(out, put);
+    }
+    if !narrow(&words[0..n], &mut kinds) {
+        return put_bad(out, put);
+    }
+    let j = joints(line, k.next, &mut bits);
+    let m = j.count;
+    if !j.ends(line) {
+        return put_bad(out, put);
+    }
+    run_parse(
+        entry,
+        mode.value,
+        &kinds[0..n],
+        &bits[0..m],
+        &mut room[0..r],
+        out,
+        put,
+    )
+}
+
+fn check_case(line: &[u8], at: usize, out: &mut [u8], put: usize) -> usize
+    requires { ⌜ at ≤ length (now line) ⌝ }
+{
+    let mut words = [0u32; 131080];
+    let l = decimals(line, at, &mut words);
+    let n = l.count;
+    if !l.ends(line) {
+        return put_bad(out, put);
+    }
+    let a = events::check(&words[0..n]);
+    put_place(out, put, a.code(), a.place() as u64)
+}
+
+// How a resolution left the list, which was `kept`, and the bytes behind the file.
+fn left_state(code: u32, words: &[u32], kept: &[u32], rest: &[u8]) -> State {
+    let clean = all_bytes(rest, BYTE);
+    if !clean {
+        return State::Other;
+    }
+    let bare = all_bare(words);
+    let same = equal(words, kept);
+    if code == 0 {
+        return either(bare, State::Bare, same, State::Same);
+    }
+    either(same, State::Same, bare, State::Bare)
+}
+
+// The bytes of the file that an answer has.
+fn file_bytes(a: events::Answer) -> usize {
+    if a.code() == 0 {
+        return a.place();
+    }
+    0
+}
+
+fn put_resolve(
+    out: &mut [u8],
+    at: usize,
+    a: events::Answer,
+    words: &[u32],
+    kept: &[u32],
+    room: &[u8],
+) -> usize {
+    let n = put_place(out, at, a.code(), a.place() as u64);
+    let k = file_bytes(a);
+    if k > room.len() {
+        return put_text(out, n, b" - other");
+    }
+    let n = put(out, n, b' ');
+    let n = put_bytes(out, n, &room[0..k]);
+    put_state(out, n, left_state(a.code(), words, kept, &room[k..]))
+}
+
+// Resolves, and puts the answer. What the list was is read off the line again.
+fn run_resolve(
+    line: &[u8],
+    at: usize,
+    words: &mut [u32],
+    room: &mut [u8],
+    out: &mut [u8],
+    put: usize,
+) -> usize
+    requires { ⌜ at ≤ length (now line) ⌝ }
+{
+    let a = events::resolve(words, room);
+    let mut kept = [0u32; 131080];
+    let l = decimals(line, at, &mut kept);
+    let n = l.count;
+    put_resolve(out, put, a, words, &kept[0..n], room)
+}
+
+fn step_room() -> [u8; 524296]
+    ensures { λ r. ⌜ 524296 ≡ length r ⌝ }
+{
+    [BYTE; 524296]
+}
+
+fn resolve_case(line: &[u8], at: usize, out: &mut [u8], put: usize) -> usize
+    requires { ⌜ at ≤ length (now line) ⌝ }
+{
+    let mut words = [0u32; 131080];
+    let mut room = step_room();
+    let size = field(line, at, false);
+    if !size.ok {
+        return put_bad(out, put);
+    }
+    let r = size.value as usize;
+    if r > 524296 {
+        return put_bad(out, put);
+    }
+    let l = decimals(line, size.next, &mut words);
+    let n = l.count;
+    if !l.ends(line) {
+        return put_bad(out, put);
+    }
+    run_resolve(line, size.next, &mut words[0..n], &mut room[0..r], out, put)
+}
+
+// The answer to a line, without its line feed.
+fn answer_case(line: &[u8], out: &mut [u8], put: usize) -> usize {
+    let p = past_words(line, b"parse source");
+    if p > 0 {
+        return parse_case(line, p, Entry::SourceFile, out, put);
+    }
+    let p = past_words(line, b"parse item");
+    if p > 0 {
+        return parse_case(line, p, Entry::Item, out, put);
+    }
+    let p = past_words(line, b"parse expr");
+    if p > 0 {
+        return parse_case(line, p, Entry::Expression, out, put);
+    }
+    let p = past_words(line, b"check");
+    if p > 0 {
+        return check_case(line, p, out, put);
+    }
+    let p = past_words(line, b"resolve");
+    if p > 0 {
+        return resolve_case(line, p, out, put);
+    }
+    put_bad(out, put)
+}
+
+pub fn answer(line: &[u8], out: &mut [u8], at: usize) -> usize {
+    let n = answer_case(line, out, at);
+    put(out, n, b'\n')
+}
