@@ -1,5 +1,4 @@
-// The cases: each is read off its line, run in rooms of its own, and its answer put behind what is to be written.
-use crate::read::Numbers;
+// The cases: each is read off its line, from a place on, and run in rooms of its own; its answer is put behind the first `at` bytes of `out`.
 use crate::read::decimals;
 use crate::read::joints;
 use crate::read::narrow;
@@ -16,7 +15,14 @@ ghost use mathlib.Core.Path.{_≡_};
 ghost use Prim.Native.Nat.{_≤_};
 ghost use lib.ListN.{length};
 
-// What a parse's room has before the call, and a byte of the step room.
+// What is held: tokens, words of a room or a list, and bytes of a step room.
+const TOKENS: usize = 8256;
+
+const WORDS: usize = 131080;
+
+const BYTES: usize = 524296;
+
+// A word of a parse's room, and a byte of the step room, before the call.
 const WORD: u32 = 3735928559;
 
 const BYTE: u8 = 165;
@@ -158,43 +164,43 @@ fn run_parse(
     joints: &[u64],
     room: &mut [u32],
     out: &mut [u8],
-    put: usize,
+    at: usize,
 ) -> usize {
     let a = parse::parse(entry, mode, kinds, joints, room);
-    put_parse(out, put, a, room)
+    put_parse(out, at, a, room)
 }
 
-fn parse_case(line: &[u8], at: usize, entry: Entry, out: &mut [u8], put: usize) -> usize
-    requires { ⌜ at ≤ length (now line) ⌝ }
+fn parse_case(line: &[u8], from: usize, entry: Entry, out: &mut [u8], at: usize) -> usize
+    requires { ⌜ from ≤ length (now line) ⌝ }
 {
-    let mut words = [0u32; 8256];
-    let mut kinds = [0u16; 8256];
+    let mut words = [0u32; TOKENS];
+    let mut kinds = [0u16; TOKENS];
     let mut bits = [0u64; 256];
-    let mut room = [WORD; 131080];
-    let mode = field(line, at, false);
+    let mut room = [WORD; WORDS];
+    let mode = field(line, from, false);
     if !mode.ok {
-        return put_bad(out, put);
+        return put_bad(out, at);
     }
     let size = field(line, mode.next, false);
     if !size.ok {
-        return put_bad(out, put);
+        return put_bad(out, at);
     }
     let r = size.value as usize;
-    if r > 131080 {
-        return put_bad(out, put);
+    if r > WORDS {
+        return put_bad(out, at);
     }
     let k = decimals(line, size.next, &mut words);
     let n = k.count;
     if !k.ok {
-        return put_bad(out, put);
+        return put_bad(out, at);
     }
     if !narrow(&words[0..n], &mut kinds) {
-        return put_bad(out, put);
+        return put_bad(out, at);
     }
     let j = joints(line, k.next, &mut bits);
     let m = j.count;
     if !j.ends(line) {
-        return put_bad(out, put);
+        return put_bad(out, at);
     }
     run_parse(
         entry,
@@ -203,27 +209,26 @@ fn parse_case(line: &[u8], at: usize, entry: Entry, out: &mut [u8], put: usize) 
         &bits[0..m],
         &mut room[0..r],
         out,
-        put,
+        at,
     )
 }
 
-fn check_case(line: &[u8], at: usize, out: &mut [u8], put: usize) -> usize
-    requires { ⌜ at ≤ length (now line) ⌝ }
+fn check_case(line: &[u8], from: usize, out: &mut [u8], at: usize) -> usize
+    requires { ⌜ from ≤ length (now line) ⌝ }
 {
-    let mut words = [0u32; 131080];
-    let l = decimals(line, at, &mut words);
+    let mut words = [0u32; WORDS];
+    let l = decimals(line, from, &mut words);
     let n = l.count;
     if !l.ends(line) {
-        return put_bad(out, put);
+        return put_bad(out, at);
     }
     let a = events::check(&words[0..n]);
-    put_place(out, put, a.code(), a.place() as u64)
+    put_place(out, at, a.code(), a.place() as u64)
 }
 
 // How a resolution left the list, which was `kept`, and the bytes behind the file.
 fn left_state(code: u32, words: &[u32], kept: &[u32], rest: &[u8]) -> State {
-    let clean = all_bytes(rest, BYTE);
-    if !clean {
+    if !all_bytes(rest, BYTE) {
         return State::Other;
     }
     let bare = all_bare(words);
@@ -263,71 +268,71 @@ fn put_resolve(
 // Resolves, and puts the answer. What the list was is read off the line again.
 fn run_resolve(
     line: &[u8],
-    at: usize,
+    from: usize,
     words: &mut [u32],
     room: &mut [u8],
     out: &mut [u8],
-    put: usize,
+    at: usize,
 ) -> usize
-    requires { ⌜ at ≤ length (now line) ⌝ }
+    requires { ⌜ from ≤ length (now line) ⌝ }
 {
     let a = events::resolve(words, room);
-    let mut kept = [0u32; 131080];
-    let l = decimals(line, at, &mut kept);
+    let mut kept = [0u32; WORDS];
+    let l = decimals(line, from, &mut kept);
     let n = l.count;
-    put_resolve(out, put, a, words, &kept[0..n], room)
+    put_resolve(out, at, a, words, &kept[0..n], room)
 }
 
-fn step_room() -> [u8; 524296]
+fn step_room() -> [u8; BYTES]
     ensures { λ r. ⌜ 524296 ≡ length r ⌝ }
 {
-    [BYTE; 524296]
+    [BYTE; BYTES]
 }
 
-fn resolve_case(line: &[u8], at: usize, out: &mut [u8], put: usize) -> usize
-    requires { ⌜ at ≤ length (now line) ⌝ }
+fn resolve_case(line: &[u8], from: usize, out: &mut [u8], at: usize) -> usize
+    requires { ⌜ from ≤ length (now line) ⌝ }
 {
-    let mut words = [0u32; 131080];
+    let mut words = [0u32; WORDS];
     let mut room = step_room();
-    let size = field(line, at, false);
+    let size = field(line, from, false);
     if !size.ok {
-        return put_bad(out, put);
+        return put_bad(out, at);
     }
     let r = size.value as usize;
-    if r > 524296 {
-        return put_bad(out, put);
+    if r > BYTES {
+        return put_bad(out, at);
     }
     let l = decimals(line, size.next, &mut words);
     let n = l.count;
     if !l.ends(line) {
-        return put_bad(out, put);
+        return put_bad(out, at);
     }
-    run_resolve(line, size.next, &mut words[0..n], &mut room[0..r], out, put)
+    run_resolve(line, size.next, &mut words[0..n], &mut room[0..r], out, at)
 }
 
 // The answer to a line, without its line feed.
-fn answer_case(line: &[u8], out: &mut [u8], put: usize) -> usize {
+fn answer_case(line: &[u8], out: &mut [u8], at: usize) -> usize {
     let p = past_words(line, b"parse source");
     if p > 0 {
-        return parse_case(line, p, Entry::SourceFile, out, put);
+        return parse_case(line, p, Entry::SourceFile, out, at);
     }
     let p = past_words(line, b"parse item");
     if p > 0 {
-        return parse_case(line, p, Entry::Item, out, put);
+        return parse_case(line, p, Entry::Item, out, at);
     }
     let p = past_words(line, b"parse expr");
     if p > 0 {
-        return parse_case(line, p, Entry::Expression, out, put);
+        return parse_case(line, p, Entry::Expression, out, at);
     }
     let p = past_words(line, b"check");
     if p > 0 {
-        return check_case(line, p, out, put);
+        return check_case(line, p, out, at);
     }
     let p = past_words(line, b"resolve");
     if p > 0 {
-        return resolve_case(line, p, out, put);
+        return resolve_case(line, p, out, at);
     }
-    put_bad(out, put)
+    put_bad(out, at)
 }
 
 pub fn answer(line: &[u8], out: &mut [u8], at: usize) -> usize {
