@@ -27,6 +27,19 @@ const WORD: u32 = 3735928559;
 
 const BYTE: u8 = 165;
 
+// Rooms by calls, so that their lengths are counted once.
+fn words_room(w: u32) -> [u32; WORDS]
+    ensures { λ r. ⌜ 131080 ≡ length r ⌝ }
+{
+    [w; WORDS]
+}
+
+fn step_room() -> [u8; BYTES]
+    ensures { λ r. ⌜ 524296 ≡ length r ⌝ }
+{
+    [BYTE; BYTES]
+}
+
 // How a call left what it was lent.
 enum State {
     List,
@@ -176,17 +189,12 @@ fn parse_case(line: &[u8], from: usize, entry: Entry, out: &mut [u8], at: usize)
     let mut words = [0u32; TOKENS];
     let mut kinds = [0u16; TOKENS];
     let mut bits = [0u64; 256];
-    let mut room = [WORD; WORDS];
     let mode = field(line, from, false);
     if !mode.ok {
         return put_bad(out, at);
     }
     let size = field(line, mode.next, false);
     if !size.ok {
-        return put_bad(out, at);
-    }
-    let r = size.value as usize;
-    if r > WORDS {
         return put_bad(out, at);
     }
     let k = decimals(line, size.next, &mut words);
@@ -202,6 +210,11 @@ fn parse_case(line: &[u8], from: usize, entry: Entry, out: &mut [u8], at: usize)
     if !j.ends(line) {
         return put_bad(out, at);
     }
+    let r = size.value as usize;
+    if r > WORDS {
+        return put_bad(out, at);
+    }
+    let mut room = words_room(WORD);
     run_parse(
         entry,
         mode.value,
@@ -216,7 +229,7 @@ fn parse_case(line: &[u8], from: usize, entry: Entry, out: &mut [u8], at: usize)
 fn check_case(line: &[u8], from: usize, out: &mut [u8], at: usize) -> usize
     requires { ⌜ from ≤ length (now line) ⌝ }
 {
-    let mut words = [0u32; WORDS];
+    let mut words = words_room(0);
     let l = decimals(line, from, &mut words);
     let n = l.count;
     if !l.ends(line) {
@@ -277,29 +290,18 @@ fn run_resolve(
     requires { ⌜ from ≤ length (now line) ⌝ }
 {
     let a = events::resolve(words, room);
-    let mut kept = [0u32; WORDS];
+    let mut kept = words_room(0);
     let l = decimals(line, from, &mut kept);
     let n = l.count;
     put_resolve(out, at, a, words, &kept[0..n], room)
 }
 
-fn step_room() -> [u8; BYTES]
-    ensures { λ r. ⌜ 524296 ≡ length r ⌝ }
-{
-    [BYTE; BYTES]
-}
-
 fn resolve_case(line: &[u8], from: usize, out: &mut [u8], at: usize) -> usize
     requires { ⌜ from ≤ length (now line) ⌝ }
 {
-    let mut words = [0u32; WORDS];
-    let mut room = step_room();
+    let mut words = words_room(0);
     let size = field(line, from, false);
     if !size.ok {
-        return put_bad(out, at);
-    }
-    let r = size.value as usize;
-    if r > BYTES {
         return put_bad(out, at);
     }
     let l = decimals(line, size.next, &mut words);
@@ -307,6 +309,11 @@ fn resolve_case(line: &[u8], from: usize, out: &mut [u8], at: usize) -> usize
     if !l.ends(line) {
         return put_bad(out, at);
     }
+    let r = size.value as usize;
+    if r > BYTES {
+        return put_bad(out, at);
+    }
+    let mut room = step_room();
     run_resolve(line, size.next, &mut words[0..n], &mut room[0..r], out, at)
 }
 
