@@ -54,7 +54,7 @@ fn digit(b: u8) -> u64
 }
 
 // The digits at a place, as a number of 32 bits.
-fn digits(line: &[u8], at: usize) -> Number
+pub fn digits(line: &[u8], at: usize) -> Number
     requires { ⌜ at ≤ length (now line) ⌝ }
     ensures { λ r. ⌜ r .next ≤ length (now (line .entry)) ⌝ }
 {
