@@ -1,11 +1,14 @@
 -- What an exported call returns and leaves, from what the call behind it says.
-use Prim.Native.Nat.{ℕ}
+use Prim.Native.Nat.{ℕ, zero, suc}
 use mathlib.Core.Bool.{cond}
 use mathlib.Core.List.{List, []}
-use lib.Dec.{eqb}
+use lib.Dec.{eqb, ltb}
 use lib.ListN.{length, set}
 use Rattle.events.specs.Check.{checked}
 use Rattle.events.specs.Resolve.{Outcome, ends, panics, resolved}
+use Rattle.parse.specs.declared.Answer.{Answer}
+use Rattle.parse.specs.declared.Entry.the-variants.{SourceFile, Item, Expression}
+use Rattle.parse.specs.Parse as P
 
 -- the number returned, the words, the step room and the answer room
 pub data Call : Type 0 where
@@ -27,3 +30,20 @@ checks ws room = withRoom room ws [] (ends (checked ws) ws [])
 
 abbrev pub resolves : List ℕ → List ℕ → List ℕ → Call
 resolves ws out room = withRoom room ws out (resolved ws out)
+
+-- A parse: place, events and lookups in the first three words.
+abbrev pub three : Answer → List ℕ → List ℕ
+three a room = set (set (set room 0 (a .place)) 1 (a .events)) 2 (a .lookups)
+
+unfoldable pub toldParse : List ℕ → P.Outcome → Call
+toldParse room o = returns (o .answer .code) (o .room) [] (three (o .answer) room)
+
+-- entry 0 is the source file, 1 an item, 2 an expression; another one is told by 101
+abbrev pub entered : ℕ → ℕ → List ℕ → List ℕ → List ℕ → P.Outcome
+entered zero mode kinds joints ws = P.parsed (P.lent SourceFile mode kinds joints ws)
+entered (suc zero) mode kinds joints ws = P.parsed (P.lent Item mode kinds joints ws)
+entered (suc (suc zero)) mode kinds joints ws = P.parsed (P.lent Expression mode kinds joints ws)
+entered (suc (suc (suc n))) mode kinds joints ws = P.ends (P.refuses 101 0) ws
+
+unfoldable pub parses : ℕ → ℕ → List ℕ → List ℕ → List ℕ → List ℕ → Call
+parses entry mode kinds joints ws room = cond (ltb (length room) 3) (returns 100 ws [] room) (toldParse room (entered entry mode kinds joints ws))

@@ -1,8 +1,75 @@
 // The public calls for C and Rust. A slice passes as a pointer and a length. A call returns the number of docs/RULES.md and writes its
-// place to the first word of a lent answer room; where that room has no word it returns 100, and reads and writes nothing.
+// place to the first word of a lent answer room, a parse its events and lookups to the next two. Where that room is too short it returns
+// 100, and reads and writes nothing.
+use parse::Answer;
+use parse::Entry;
 ghost use mathlib.Core.Path.{_≡_};
 ghost use mathlib.Core.List.{[]};
-ghost use Rattle.oq3.specs.Calls.{checks, resolves, returns};
+ghost use Prim.Native.Nat.{_≤_};
+ghost use lib.ListN.{length};
+ghost use Rattle.parse.specs.Parse.{lent, parsed};
+ghost use Rattle.oq3.specs.Calls.{checks, resolves, returns, three, toldParse, parses};
+
+// Writes the place, the events and the lookups of an answer, and hands its number back.
+fn tell(answer: &mut [u64], a: Answer) -> u32
+    requires { ⌜ 3 ≤ length (now answer) ⌝ }
+    ensures { λ r. ⌜ (r ≡ a .code) × (now (answer .exit) ≡ three a (now (answer .entry))) ⌝ }
+{
+    answer[0] = a.place as u64;
+    answer[1] = a.events as u64;
+    answer[2] = a.lookups as u64;
+    a.code
+}
+
+// A parse from an entry, told.
+fn parse_from(
+    entry: Entry,
+    mode: u32,
+    kinds: &[u16],
+    joints: &[u64],
+    room: &mut [u32],
+    answer: &mut [u64],
+) -> u32
+    requires { ⌜ 3 ≤ length (now answer) ⌝ }
+    ensures { λ r. ⌜ toldParse (now (answer .entry)) (parsed (lent entry mode (now (kinds .entry)) (now (joints .entry)) (now (room .entry)))) ≡ returns r (now (room .exit)) [] (now (answer .exit)) ⌝ }
+{
+    let a = parse::parse(entry, mode, kinds, joints, room);
+    tell(answer, a)
+}
+
+// Entry 0 is the source file, 1 an item, 2 an expression. Another one returns 101, with 0 for each word of the answer, before any test
+// of docs/RULES.md.
+#[no_mangle]
+pub extern "C" fn oq3_parse(
+    entry: u32,
+    mode: u32,
+    kinds: &[u16],
+    joints: &[u64],
+    room: &mut [u32],
+    answer: &mut [u64],
+) -> u32
+    ensures { λ r. ⌜ parses entry mode (now (kinds .entry)) (now (joints .entry)) (now (room .entry)) (now (answer .entry)) ≡ returns r (now (room .exit)) [] (now (answer .exit)) ⌝ }
+{
+    if answer.len() < 3 {
+        return 100;
+    }
+    if entry == 0 {
+        return parse_from(Entry::SourceFile, mode, kinds, joints, room, answer);
+    }
+    if entry == 1 {
+        return parse_from(Entry::Item, mode, kinds, joints, room, answer);
+    }
+    if entry == 2 {
+        return parse_from(Entry::Expression, mode, kinds, joints, room, answer);
+    }
+    let a = Answer {
+        code: 101,
+        place: 0,
+        events: 0,
+        lookups: 0,
+    };
+    tell(answer, a)
+}
 
 #[no_mangle]
 pub extern "C" fn oq3_check(words: &[u32], answer: &mut [u64]) -> u32
