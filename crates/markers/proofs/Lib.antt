@@ -1,0 +1,12 @@
+pub mod Balance
+pub mod Marks
+pub mod Live
+pub mod Safe
+pub mod Calculus
+pub mod Counted
+pub mod OfGrammar
+pub mod OfExpressions
+pub mod OfParams
+pub mod OfAtom
+pub mod OfItems
+pub mod OfEntry

@@ -1,0 +1,1 @@
+// Proofs alone: what the marker acts of the grammar leave.
