@@ -19,7 +19,7 @@ use Rattle.events.proofs.Running.{length-turn}
 use Rattle.events.proofs.Passing.{pass-start, lands-follow}
 
 -- how many nodes some parents open
-count : List Parent → ℕ
+pub count : List Parent → ℕ
 count [] = 0
 count (x ∷ xs) = min (x .kind) 1 + count xs
 
@@ -62,7 +62,7 @@ visited p k f es i o ih h =
     let z : o + (min k 1 + count (follow (suc p) es f .parents)) + min 0 1 ≡ o + min k 1 + count (follow (suc p) es f .parents) = omega arith in
     rw z (ih (suc i) (o + min k 1) (q .1))
 
-scan-follow : (p : ℕ) (es : List Event) (d i o : ℕ) → scan es i o .code ≡ 0 → scan (follow p es d .left) i (o + count (follow p es d .parents)) .code ≡ 0
+pub scan-follow : (p : ℕ) (es : List Event) (d i o : ℕ) → scan es i o .code ≡ 0 → scan (follow p es d .left) i (o + count (follow p es d .parents)) .code ≡ 0
 unfolding scan follow count
 scan-follow p [] zero i o h = rw add-zero h
 scan-follow p [] (suc d) i o h = rw add-zero h
@@ -92,7 +92,7 @@ closes-turn p (Token k n) es i o ss ih h = ih o h
 closes-turn p (Error c x) es i o ss ih h = ih o h
 closes-turn p NoEvent es i o ss ih h = absurd (omega arith)
 
-closes-turns : (n p : ℕ) (es : List Event) (i o : ℕ) → length es ≡ n → scan es i o .code ≡ 0 → closes o (stepsOf (turns n p es .steps)) ≡ true
+pub closes-turns : (n p : ℕ) (es : List Event) (i o : ℕ) → length es ≡ n → scan es i o .code ≡ 0 → closes o (stepsOf (turns n p es .steps)) ≡ true
 unfolding turns scan closes
 closes-turns zero p [] i zero l h = refl
 closes-turns zero p [] i (suc o) l h = absurd (omega arith)

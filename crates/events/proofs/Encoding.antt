@@ -22,7 +22,7 @@ by-test P true x y f g = f refl
 by-test P false x y f g = g refl
 
 -- an event whose numbers are in their ranges
-pub Sound : Event → Type 0
+unfoldable pub Sound : Event → Type 0
 Sound (Start k d) = k < 65536
 Sound Finish = Unit {0}
 Sound (Token k n) = (k < 65536) × (0 < n) × (n ≤ 3)

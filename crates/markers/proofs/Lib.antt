@@ -2,6 +2,7 @@ pub mod Balance
 pub mod Marks
 pub mod Live
 pub mod Safe
+pub mod Discipline
 pub mod Calculus
 pub mod Counted
 pub mod OfGrammar

@@ -117,6 +117,10 @@ pub extends-at : (n i j : ℕ) (l : List Event) {o o′ : Marks} → Extends i j
 extends-at n i j l (here d) h = let r = drops-at j i l d (h .2) in (r .0, h .0, bare-start (at l i) (r .1), h .1)
 extends-at n i j l (there {x = x} t) h = let r = extends-at (spot x) i j l t (h .2) in (r .0, omega (arith, r .1, h .0), r .2, r .3)
 
+pub bare-extends : (n i j : ℕ) (l : List Event) {o o′ : Marks} → Extends i j o o′ → Fits n l o → isBare (at l i) ≡ true
+bare-extends n i j l (here d) h = drops-at j i l d (h .2) .1
+bare-extends n i j l (there {x = x} t) h = bare-extends (spot x) i j l t (h .2)
+
 -- `complete`: a kind, and a finish
 module _ (l : List Event) (i k : ℕ) (bare : isBare (at l i) ≡ true) where
   named-reach : (v : Event) → isBare v ≡ true → reach (withKind k v) ≡ 0

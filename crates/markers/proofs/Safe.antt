@@ -20,7 +20,7 @@ use Rattle.runtime.specs.Glue.{gluedKinds, partsIn, partsOf, rawCount, standsAt
 use Rattle.runtime.specs.Event.{Event, Event.start, Event.finish, Event.token, Event.error, Event.none, holds, isStart, isBare, withKind, withDistance}
 use Rattle.runtime.specs.State.{St, live, looked, halted, stopNumber, numbers, added, rewritten, refuse, popped, eventAt, pushEvent, enough, consume, doBump, named, distance, linked, dropped, mostLooks, counted, refusal, consumed, Fit}
 use Rattle.runtime.specs.Cover.{events}
-use Rattle.runtime.specs.Acts.{Act.looks, Act.peeks, Act.eats, Act.takes, Act.starts, Act.completes, Act.abandons, Act.precedes, Act.extends, Act.fails, Act.stops, Act.asks, kindAhead, sees, step, Acts, Acts.done, Acts.act, _>>=_, run}
+use Rattle.runtime.specs.Acts.{Act, Act.looks, Act.peeks, Act.eats, Act.takes, Act.starts, Act.completes, Act.abandons, Act.precedes, Act.extends, Act.fails, Act.stops, Act.asks, Answer, kindAhead, sees, step, Acts, Acts.done, Acts.act, _>>=_, run}
 use Rattle.runtime.proofs.Kept.{by-pick, kept-step}
 use Rattle.runtime.proofs.Laws.{stop-number}
 use Rattle.runtime.proofs.Runs.{fits, Held, helds, refused-run, few-parts}
@@ -66,7 +66,7 @@ pub record Sound (o : Marks) (s : St) : Type 0 where
 refused-sound : (o : Marks) (s : St) → (s .p .refused ≡ 0 → ⊥) → Sound o s
 refused-sound o s n = record { list = λ z. absurd (n z) }
 
-at-event : (s : St) (m : ℕ) → Held s → eventAt s m ≡ at (events s) m
+pub at-event : (s : St) (m : ℕ) → Held s → eventAt s m ≡ at (events s) m
 unfolding eventAt
 at-event s m h = by (ltb m (s .p .len)) refl
   where
@@ -74,7 +74,7 @@ at-event s m h = by (ltb m (s .p .len)) refl
     by true q = sym (getD-take (s .p .len) (s .room) m (none 0 0) (ltb-true _ _ q))
     by false q = sym (List·getD-eq-default (events s) (none 0 0) (rw (length-take-le (s .p .len) (s .room) h) (ltb-false _ _ q)))
 
-count : (s : St) → Held s → length (events s) ≡ s .p .len
+pub count : (s : St) → Held s → length (events s) ≡ s .p .len
 count s h = length-take-le (s .p .len) (s .room) h
 
 -- Each way to change a state.
@@ -116,13 +116,13 @@ module _ (s : St) (held : Held s) where
       let b = both-parts (small c) (small a) t in
       pushed o (error c a) (λ z l. live-add o (events s) (error c a) refl refl (ltb→lt _ _ (b .0), ltb→lt _ _ (b .1)) (h .list z))
 
-  started : (o : Marks) → Sound o s → Sound (fresh (s .p .len) ∷ o) (pushEvent (start TOMBSTONE 0) s)
+  pub started : (o : Marks) → Sound o s → Sound (fresh (s .p .len) ∷ o) (pushEvent (start TOMBSTONE 0) s)
   started o h =
       pushed (fresh (s .p .len) ∷ o) (start TOMBSTONE 0)
       (λ z l. subst (λ (n : ℕ). Live (fresh n ∷ o) (events s ++ start 0 0 ∷ [])) (count s held) (live-start o (events s) (h .list z)))
 
   -- a start that is rewritten
-  rewrote : (m : ℕ) (v : Event) → m < s .p .len → events (rewritten m v s) ≡ set (events s) m v
+  pub rewrote : (m : ℕ) (v : Event) → m < s .p .len → events (rewritten m v s) ≡ set (events s) m v
   rewrote m v l = take-set-lt (s .p .len) (s .room) m v l
 
 -- `complete`
@@ -221,25 +221,46 @@ eaten e b s held k o h =
     (λ q. bumped s held e o k (rawCount (partsOf k)) (λ z. (stands-small e b (s .p .refused) (s .p .pos + 0) k q, few-parts (partsOf k) .0, few-parts (partsOf k) .1)) h)
     (λ q. h)
 
+-- An act of safe acts is refused, or what follows is safe from the markers that it leaves.
+halted-refused : (n : ℕ) (p : Parser) → (n ≡ 0 → ⊥) → halted n p .refused ≡ 0 → ⊥
+unfolding halted
+halted-refused n p h = by-pick (λ (q : Parser). q .refused ≡ 0 → ⊥) (live p) (refusal n p) p (λ q. h) (λ q. eqb-false _ _ q)
+
+pub record Next {A : Type 0} (e : Env) (a : Act) (m : Answer a → Acts A) (Q : A → Marks → Type 0) (s : St) : Type 0 where
+  pub after : Marks
+  pub safe : Safe (m (step e a s .0)) after Q
+  pub sound : Sound after (step e a s .1)
+
+module _ {A : Type 0} (e : Env) (b : Bounded e) (o : Marks) (Q : A → Marks → Type 0) (s : St) (f : Fit (s .p)) (d : Held s) (h : Sound o s) where
+  pub safe-step : (a : Act) (m : Answer a → Acts A) → Safe (act a m) o Q → (step e a s .1 .p .refused ≡ 0 → ⊥) ⊎ Next e a m Q s
+  unfolding step
+  safe-step (looks n) m g = inr (record { after = o; safe = g _; sound = looking s d o h })
+  safe-step (peeks n k) m g = inr (record { after = o; safe = g _; sound = h })
+  safe-step (eats k) m g = inr (record { after = o; safe = g _; sound = eaten e b s d k o h })
+  safe-step takes m g =
+      inr (record { after = o; safe = g; sound = bumped s d e o (kindAhead e (s .p) 0) 1 (λ y. (seen-small e b (s .p .refused) (s .p .pos + 0), omega arith, omega arith)) h })
+  safe-step starts m g = inr (record { after = fresh (s .p .len) ∷ o; safe = g (s .p .len); sound = started s d o h })
+  safe-step (completes i k) m g = inr (record { after = g .1 .0; safe = g .1 .2; sound = completed s d i k (g .0) (g .1 .1) h })
+  safe-step (abandons i) m g = inr (record { after = g .0; safe = g .2; sound = abandoned s d i (g .1) h })
+  safe-step (precedes i) m g =
+      inr (record { after = made (s .p .len) ∷ o; safe = g .1 (s .p .len); sound = preceded s d (kept-step e Held (helds e) starts s d) (f .short) i (g .0) h })
+  safe-step (extends j i) m g = inr (record { after = g .0; safe = g .2; sound = extended s d (f .short) i j (g .1) h })
+  safe-step (fails c a) m g = inr (record { after = o; safe = g .1; sound = failed s d o c a (g .0) h })
+  safe-step (stops w) m g = inl (halted-refused (stopNumber w) (s .p) (stop-number w))
+  safe-step asks m g = inr (record { after = o; safe = g _; sound = h })
+
 -- Safe acts from o end, unless they are refused, with markers that meet Q and a list that is well made.
 pub safe-run : {A : Type 0} (e : Env) → Bounded e → (m : Acts A) (o : Marks) (Q : A → Marks → Type 0) (s : St) → Fit (s .p) → Held s → Safe m o Q → Sound o s → run e m s .1 .p .refused ≡ 0
     → (o′ : Marks) × Q (run e m s .0) o′ × Live o′ (events (run e m s .1))
-unfolding run step
+unfolding run
 safe-run e b (done a) o Q s f d g h z = (o, g, h .list z)
-safe-run e b (act (looks n) m) o Q s f d g h z = safe-run e b (m _) o Q (numbers (looked (s .p)) s) (kept-step e (λ (r : St). Fit (r .p)) (fits e) (looks n) s f) (kept-step e Held (helds e) (looks n) s d) (g _) (looking s d o h) z
-safe-run e b (act (peeks n k) m) o Q s f d g h z = safe-run e b (m _) o Q s f d (g _) h z
-safe-run e b (act (eats k) m) o Q s f d g h z = safe-run e b (m _) o Q (step e (eats k) s .1) (kept-step e (λ (r : St). Fit (r .p)) (fits e) (eats k) s f) (kept-step e Held (helds e) (eats k) s d) (g _) (eaten e b s d k o h) z
-safe-run e b (act takes m) o Q s f d g h z = safe-run e b (m tt) o Q (doBump e (kindAhead e (s .p) 0) 1 s) (kept-step e (λ (r : St). Fit (r .p)) (fits e) takes s f) (kept-step e Held (helds e) takes s d) g (bumped s d e o (kindAhead e (s .p) 0) 1 (λ y. (seen-small e b (s .p .refused) (s .p .pos + 0), omega arith, omega arith)) h) z
-safe-run e b (act starts m) o Q s f d g h z = safe-run e b (m (s .p .len)) (fresh (s .p .len) ∷ o) Q (pushEvent (start TOMBSTONE 0) s) (kept-step e (λ (r : St). Fit (r .p)) (fits e) starts s f) (kept-step e Held (helds e) starts s d) (g (s .p .len)) (started s d o h) z
-safe-run e b (act (completes i k) m) o Q s f d g h z = safe-run e b (m tt) (g .1 .0) Q (pushEvent finish (named i k s)) (kept-step e (λ (r : St). Fit (r .p)) (fits e) (completes i k) s f) (kept-step e Held (helds e) (completes i k) s d) (g .1 .2) (completed s d i k (g .0) (g .1 .1) h) z
-safe-run e b (act (abandons i) m) o Q s f d g h z = safe-run e b (m tt) (g .0) Q (dropped i s) (kept-step e (λ (r : St). Fit (r .p)) (fits e) (abandons i) s f) (kept-step e Held (helds e) (abandons i) s d) (g .2) (abandoned s d i (g .1) h) z
-safe-run e b (act (precedes i) m) o Q s f d g h z = safe-run e b (m (s .p .len)) (made (s .p .len) ∷ o) Q (linked i (distance i (s .p .len)) (pushEvent (start TOMBSTONE 0) s)) (kept-step e (λ (r : St). Fit (r .p)) (fits e) (precedes i) s f) (kept-step e Held (helds e) (precedes i) s d) (g .1 (s .p .len)) (preceded s d (kept-step e Held (helds e) starts s d) (f .short) i (g .0) h) z
-safe-run e b (act (extends j i) m) o Q s f d g h z = safe-run e b (m tt) (g .0) Q (linked i (distance i j) s) (kept-step e (λ (r : St). Fit (r .p)) (fits e) (extends j i) s f) (kept-step e Held (helds e) (extends j i) s d) (g .2) (extended s d (f .short) i j (g .1) h) z
-safe-run e b (act (fails c a) m) o Q s f d g h z = safe-run e b (m tt) o Q (pushEvent (error c a) s) (kept-step e (λ (r : St). Fit (r .p)) (fits e) (fails c a) s f) (kept-step e Held (helds e) (fails c a) s d) (g .1) (failed s d o c a (g .0) h) z
-safe-run e b (act (stops w) m) o Q s f d g h z =
-    let n : halted (stopNumber w) (s .p) .refused ≡ 0 → ⊥ = halted-refused (stopNumber w) (s .p) (stop-number w) in
-    absurd (n (sym (ap (λ (r : St). r .p .refused) (refused-run e (m tt) (numbers (halted (stopNumber w) (s .p)) s) n)) ∙ z))
+safe-run e b (act a m) o Q s f d g h z =
+    by (safe-step e b o Q s f d h a m g)
+    (λ o′ g′ h′. safe-run e b (m (step e a s .0)) o′ Q (step e a s .1) (kept-step e (λ (r : St). Fit (r .p)) (fits e) a s f) (kept-step e Held (helds e) a s d) g′ h′ z)
   where
-    halted-refused : (n : ℕ) (p : Parser) → (n ≡ 0 → ⊥) → halted n p .refused ≡ 0 → ⊥
-    halted-refused n p h = unfold halted in by-pick (λ (q : Parser). q .refused ≡ 0 → ⊥) (live p) (refusal n p) p (λ q. h) (λ q. eqb-false _ _ q)
-safe-run e b (act asks m) o Q s f d g h z = safe-run e b (m _) o Q s f d (g _) h z
+    Ends : Type 0
+    Ends = (o′ : Marks) × Q (run e (m (step e a s .0)) (step e a s .1) .0) o′ × Live o′ (events (run e (m (step e a s .0)) (step e a s .1) .1))
+
+    by : (step e a s .1 .p .refused ≡ 0 → ⊥) ⊎ Next e a m Q s → ((o′ : Marks) → Safe (m (step e a s .0)) o′ Q → Sound o′ (step e a s .1) → Ends) → Ends
+    by (inl n) k = absurd (n (sym (ap (λ (x : St). x .p .refused) (refused-run e (m (step e a s .0)) (step e a s .1) n)) ∙ z))
+    by (inr x) k = k (x .after) (x .safe) (x .sound)

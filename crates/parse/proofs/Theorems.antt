@@ -26,10 +26,10 @@ parse-unique l a b r t p q = let e : ends a r ≡ ends b t = sym p ∙ q in (ap 
 
 -- the run's number and place, and what it meets
 module _ (l : Lent) where
-  meeting : _≡_ {A = ℕ × ℕ} (ran l .p .refused, ran l .p .pos) (reaches l)
+  pub meeting : _≡_ {A = ℕ × ℕ} (ran l .p .refused, ran l .p .pos) (reaches l)
   meeting = met-run (env (l .kinds) (l .joints)) (actsOf (l .entry) (l .mode)) (view new (l .room)) refl
 
-  is-reason : numberOf (l .entry) (length (l .kinds)) (ran l .p) ≡ reason l
+  pub is-reason : numberOf (l .entry) (length (l .kinds)) (ran l .p) ≡ reason l
   is-reason = ap (λ (x : ℕ × ℕ). pick (eqb (x .0) 0) (leaves (l .entry) (length (l .kinds)) (x .1)) (x .0)) meeting
 
   left-reason : (e : Entry) (n i : ℕ) → Reason (leaves e n i)
@@ -37,7 +37,7 @@ module _ (l : Lent) where
   left-reason Item n i = none
   left-reason Expression n i = none
 
-  has-reason : Reason (reason l)
+  pub has-reason : Reason (reason l)
   has-reason =
       by-pick Reason (eqb (reaches l .0) 0) (leaves (l .entry) (length (l .kinds)) (reaches l .1)) (reaches l .0)
       (λ q. left-reason (l .entry) (length (l .kinds)) (reaches l .1))

@@ -1,0 +1,26 @@
+-- What is promised, on small steps: computed. Assumes nothing.
+use mathlib.Core.Path.{_≡_, refl}
+use mathlib.Core.Bool.{Bool, true, false}
+use mathlib.Core.List.{List, [], _∷_, map}
+use Prim.Native.Nat.{ℕ}
+use Rattle.events.specs.declared.output.Step.{Step}
+use Rattle.events.specs.declared.output.Step.the-variants.{Enter as enter, Leave as leave, Token as token, Error as error}
+use Rattle.promises.specs.Promised.{closesLast, rawSum}
+
+-- behind the enter of a root: one tree; a second root; a token outside; a node that stays open; steps that end below
+rest : List (List Step)
+rest =
+    (enter 40 ∷ token 50 2 ∷ leave ∷ token 51 1 ∷ leave ∷ [])
+    ∷ (leave ∷ enter 40 ∷ leave ∷ [])
+    ∷ (leave ∷ token 50 1 ∷ [])
+    ∷ (enter 40 ∷ error 2 0 ∷ leave ∷ [])
+    ∷ (leave ∷ leave ∷ [])
+    ∷ []
+
+one-tree : map (closesLast 1) rest ≡ true ∷ false ∷ false ∷ false ∷ false ∷ []
+unfolding rest closesLast
+one-tree = refl
+
+sums : map rawSum rest ≡ 3 ∷ 0 ∷ 1 ∷ 0 ∷ 0 ∷ []
+unfolding rest rawSum
+sums = refl

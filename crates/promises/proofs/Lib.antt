@@ -1,0 +1,7 @@
+pub mod Passing
+pub mod Done
+pub mod Covering
+pub mod Tree
+pub mod Root
+pub mod Theorems
+pub mod Examples

@@ -1,0 +1,155 @@
+-- What is promised of every parse, in one place; docs/PROOFS.md has a sentence for each. Assumes nothing.
+use mathlib.Core.Path.{_≡_, refl, sym, ap, _∙_, subst}
+use mathlib.Core.Bool.{Bool, true, false}
+use mathlib.Core.List.{List, [], _∷_, _++_, map, map-append}
+use Prim.Native.Nat.{ℕ, suc, _+_, _≤_}
+use native.Mathlib.Omega.{arith}
+use lib.Dec.{ltb}
+use lib.ListN.{length, getD, replicate, length-append}
+use borrow.Author.Tests.{ltb-false}
+use Rattle.kinds.specs.Kinds.{SOURCE-FILE}
+use Rattle.kinds.specs.Membership.{pick}
+use Rattle.runtime.specs.Input.{env}
+use Rattle.runtime.specs.Event.{Event, Event.start, Event.finish, Event.token, Event.error, Event.none}
+use Rattle.runtime.specs.State.{view, new}
+use Rattle.runtime.specs.Cover.{events}
+use Rattle.runtime.specs.Acts.{run}
+use Rattle.runtime.proofs.Runs.{inside-run}
+use Rattle.runtime.proofs.Covered.{covered}
+use Rattle.grammar.specs.Operators.{tableOf}
+use Rattle.events.specs.declared.event.Event.the-variants.{Start, Finish, NoEvent}
+use Rattle.events.specs.declared.output.Step.the-variants.{Enter as enter}
+use Rattle.events.specs.Event.{eventsOf, wordsOf, tombstone}
+use Rattle.events.specs.Output.{over}
+use Rattle.events.specs.Answer.{Numbers, says}
+use Rattle.events.specs.Check.{checked}
+use Rattle.events.specs.Process.{process, stepsOf, file}
+use Rattle.events.specs.Resolve.{ends, resolved}
+use Rattle.events.specs.Shape.{closes, from, need, others, plain}
+use Rattle.events.proofs.Order.{in-order}
+use Rattle.events.proofs.Theorems.{passing-resolves, passing-closes, entered-once}
+use Rattle.parse.specs.declared.Entry.{Entry}
+use Rattle.parse.specs.declared.Entry.the-variants.{SourceFile}
+use Rattle.parse.specs.Parse.{Lent, Outcome, notPermitted, actsOf, ran, leaves, parsed}
+use Rattle.parse.proofs.Theorems.{hands-out}
+use Rattle.markers.proofs.Balance.{Balanced}
+use Rattle.markers.proofs.Marks.{Marker.fresh, Marker.made, Marker.shut, Marks}
+use Rattle.markers.proofs.Live.{Live}
+use Rattle.markers.proofs.Discipline.{Orderly, safe-orderly}
+use Rattle.markers.proofs.Calculus.{Opens, Opens.base, Opens.extra}
+use Rattle.promises.specs.Promised.{handed, stepsIn, CoverSteps, rawSum, Rooted}
+use Rattle.promises.proofs.Passing.{read, read-words, Chained, lands-there, scan-passes, live-passes}
+use Rattle.promises.proofs.Done.{kinds-small, orderly, fit-new, begins, holds-none, bounded, ended, well-made, event-count, few-events, handed-list}
+use Rattle.promises.proofs.Covering.{cover-steps, cover-sum}
+use Rattle.promises.proofs.Tree.{Chain, rooted}
+use Rattle.promises.proofs.Root.{Around, source-around}
+
+-- no marker is open
+abbrev pub AllShut : Marks → Type 0
+AllShut [] = Unit {0}
+AllShut (fresh i ∷ o) = ⊥
+AllShut (made i ∷ o) = ⊥
+AllShut (shut i ∷ o) = AllShut o
+
+chain-read : (l : List Event) → Chained l → Chain (map read l)
+chain-read [] c = tt
+chain-read (start k d ∷ l) c = (lands-there l d (c .0), chain-read l (c .1))
+chain-read (finish ∷ l) c = (refl, chain-read l (c .1))
+chain-read (token k n ∷ l) c = (refl, chain-read l (c .1))
+chain-read (error x a ∷ l) c = (refl, chain-read l (c .1))
+chain-read (none a b ∷ l) c = (refl, chain-read l (c .1))
+
+tree : (body : List Event) → Balanced 0 body 0 → Chained body → Rooted SOURCE-FILE (stepsOf (process (map read (start SOURCE-FILE 0 ∷ (body ++ finish ∷ []))) .steps))
+tree body b c =
+    let q : map read (body ++ finish ∷ []) ≡ map read body ++ Finish ∷ [] = map-append read body (finish ∷ []) in
+    let n : length (map read body ++ Finish ∷ []) ≡ suc (length (map read body)) = length-append (map read body) (Finish ∷ []) ∙ omega arith in
+    rw (q, n) (rooted SOURCE-FILE (map read body) (λ z. omega arith) (chain-read body c) (ap (λ (x : Numbers). x .code) (scan-passes body 0 0 b c)))
+
+module _ (l : Lent) (done : parsed l .answer .code ≡ 0) where
+  count-said : parsed l .answer .events ≡ ran l .p .len
+  count-said = ap (λ (o : Outcome). o .answer .events) (hands-out l done)
+
+  place-said : parsed l .answer .place ≡ ran l .p .pos
+  place-said = ap (λ (o : Outcome). o .answer .place) (hands-out l done)
+
+  -- The list that a done parse hands out passes the check.
+  pub list-passes : checked (handed (parsed l)) ≡ says 0 (parsed l .answer .events)
+  list-passes =
+      let w = well-made l done in
+      rw (handed-list l done) (live-passes (w .0) (events (ran l)) (w .2) (few-events l done) ∙ ap (says 0) (event-count l done ∙ sym count-said))
+
+  passes : checked (handed (parsed l)) .code ≡ 0
+  passes = ap (λ (n : Numbers). n .code) list-passes
+
+  -- So it resolves, given room: the bytes needed are said, tombstones and the step file are left.
+  pub list-resolves : (out : List ℕ) → need (eventsOf (handed (parsed l))) ≤ length out
+      → resolved (handed (parsed l)) out
+      ≡ ends (says 0 (need (eventsOf (handed (parsed l))))) (wordsOf (replicate (length (eventsOf (handed (parsed l)))) tombstone)) (over out 0 (file (process (eventsOf (handed (parsed l))) .steps)))
+  list-resolves out h = passing-resolves (handed (parsed l)) passes out h
+
+  -- Its steps start and end at depth 0 and are never below.
+  pub steps-close : closes 0 (stepsIn (parsed l)) ≡ true
+  steps-close = passing-closes (handed (parsed l)) passes
+
+  -- Each completed start is entered exactly once,
+  pub starts-entered : (i k d : ℕ) → getD (eventsOf (handed (parsed l))) i NoEvent ≡ Start k d → (k ≡ 0 → ⊥) → from i (process (eventsOf (handed (parsed l))) .steps) ≡ enter k ∷ []
+  starts-entered i k d = entered-once (eventsOf (handed (parsed l))) i k d
+
+  -- and tokens, errors and finishes keep their order.
+  pub steps-ordered : others (process (eventsOf (handed (parsed l))) .steps) ≡ plain 0 (eventsOf (handed (parsed l)))
+  steps-ordered = in-order (eventsOf (handed (parsed l)))
+
+  list-read : eventsOf (handed (parsed l)) ≡ map read (events (ran l))
+  list-read = rw (handed-list l done) (read-words (events (ran l)) (well-made l done .2 .sounds))
+
+  -- The token steps cover the tokens consumed, in order, each with its kind or glue,
+  pub steps-cover : CoverSteps (env (l .kinds) (l .joints)) 0 (stepsIn (parsed l)) (parsed l .answer .place)
+  steps-cover =
+      rw (list-read, place-said)
+      (cover-steps (env (l .kinds) (l .joints)) (events (ran l)) 0 (ran l .p .pos) (covered (env (l .kinds) (l .joints)) (actsOf (l .entry) (l .mode)) (l .room)))
+
+  -- and their raw counts add up to the tokens consumed.
+  pub raw-counts : rawSum (stepsIn (parsed l)) ≡ parsed l .answer .place
+  raw-counts = let g = cover-sum (env (l .kinds) (l .joints)) (stepsIn (parsed l)) 0 (parsed l .answer .place) steps-cover in omega (arith, g)
+
+  -- Nothing is left open: every marker of the run was completed, extended or abandoned.
+  pub none-open : (o : Marks) × AllShut o × Live o (events (ran l))
+  none-open = let w = well-made l done in (w .0, shut-all (w .1), w .2)
+    where
+      shut-all : {o : Marks} → Opens [] [] o → AllShut o
+      shut-all base = tt
+      shut-all (extra p) = shut-all p
+
+  module _ (source : l .entry ≡ SourceFile) where
+    -- From the source-file entry every token is consumed,
+    pub all-consumed : parsed l .answer .place ≡ length (l .kinds)
+    all-consumed =
+        place-said ∙ by (l .entry) source (ended l done .1) (inside-run (env (l .kinds) (l .joints)) (actsOf (l .entry) (l .mode)) (view new (l .room)) (omega arith))
+      where
+        by : (e : Entry) → e ≡ SourceFile → leaves e (length (l .kinds)) (ran l .p .pos) ≡ 0 → ran l .p .pos ≤ length (l .kinds) → ran l .p .pos ≡ length (l .kinds)
+        by e q z m = on (ltb (ran l .p .pos) (length (l .kinds))) refl (rw q at z)
+          where
+            on : (b : Bool) → ltb (ran l .p .pos) (length (l .kinds)) ≡ b → _≡_ {A = ℕ} (pick b 8 0) 0 → ran l .p .pos ≡ length (l .kinds)
+            on true w x = absurd (omega arith)
+            on false w x = let g : length (l .kinds) ≤ ran l .p .pos = ltb-false _ _ w in omega arith
+
+    -- so the steps cover the whole input,
+    pub source-covered : CoverSteps (env (l .kinds) (l .joints)) 0 (stepsIn (parsed l)) (length (l .kinds))
+    source-covered = subst (λ (n : ℕ). CoverSteps (env (l .kinds) (l .joints)) 0 (stepsIn (parsed l)) n) all-consumed steps-cover
+
+    -- and the tree has one root, SOURCE_FILE.
+    pub source-rooted : Rooted SOURCE-FILE (stepsIn (parsed l))
+    source-rooted = rw (list-read, surrounded .list) (tree (surrounded .body) (surrounded .balance) (surrounded .chain))
+      where
+        surrounded : Around SOURCE-FILE (events (ran l))
+        surrounded =
+            subst (λ (e : Entry). run (env (l .kinds) (l .joints)) (actsOf e (l .mode)) (view new (l .room)) .1 .p .refused ≡ 0 → Around SOURCE-FILE (events (run (env (l .kinds) (l .joints)) (actsOf e (l .mode)) (view new (l .room)) .1)))
+            (sym source)
+            (source-around (env (l .kinds) (l .joints)) (bounded l done) (tableOf (l .mode)) (l .room))
+            (ended l done .0)
+
+-- A run that is begun handles its markers well at each of its acts, refused or not: `complete`, `abandon`, `precede` and `extend_to` always
+-- find a start at their marker.
+pub markers-proper : (l : Lent) → notPermitted l ≡ false → Orderly (env (l .kinds) (l .joints)) (actsOf (l .entry) (l .mode)) (view new (l .room))
+markers-proper l h =
+    safe-orderly (env (l .kinds) (l .joints)) (record { kind = kinds-small (l .kinds) (ltb-false _ _ h) }) (actsOf (l .entry) (l .mode)) [] (λ a o. Opens [] [] o) (view new (l .room)) fit-new (holds-none (l .room)) (orderly (l .entry) (l .mode) .runs [] [] base) (begins (l .room))

@@ -1,0 +1,63 @@
+-- What is promised of the steps of a parse: that they cover tokens, and that they are one tree. Assumes nothing: these are definitions.
+use mathlib.Core.Path.{_≡_}
+use mathlib.Core.Bool.{Bool, true, false}
+use mathlib.Core.List.{List, [], _∷_}
+use Prim.Native.Nat.{ℕ, zero, suc, _+_, _*_}
+use lib.ListN.{take}
+use Rattle.runtime.specs.Input.{Env}
+use Rattle.runtime.specs.Cover.{Stands}
+use Rattle.events.specs.declared.output.Step.{Step}
+use Rattle.events.specs.declared.output.Step.the-variants.{Enter as enter, Leave as leave, Token as token, Error as error}
+use Rattle.events.specs.Event.{eventsOf}
+use Rattle.events.specs.Process.{process, stepsOf}
+use Rattle.parse.specs.Parse.{Outcome}
+
+-- the words that a parse hands out, and the steps that they resolve to
+abbrev pub handed : Outcome → List ℕ
+handed o = take (o .answer .events * 2) (o .room)
+
+abbrev pub stepsIn : Outcome → List Step
+stepsIn o = stepsOf (process (eventsOf (handed o)) .steps)
+
+-- A token step says what stands at i: its raw count of tokens, of its kind or glued to it with the joint bits that this needs. Steps
+-- cover the tokens from i up to j when their token steps, left to right, are about all of them, none left out and none twice.
+abbrev pub SaysAt : Env → ℕ → Step → Type 0
+SaysAt e i (enter k) = Unit {0}
+SaysAt e i leave = Unit {0}
+SaysAt e i (token k n) = Stands e i k n
+SaysAt e i (error c a) = Unit {0}
+
+abbrev pub rawOf : Step → ℕ
+rawOf (enter k) = 0
+rawOf leave = 0
+rawOf (token k n) = n
+rawOf (error c a) = 0
+
+abbrev pub CoverSteps : Env → ℕ → List Step → ℕ → Type 0
+CoverSteps e i [] j = i ≡ j
+CoverSteps e i (s ∷ ss) j = SaysAt e i s × CoverSteps e (i + rawOf s) ss j
+
+-- the raw counts, added up
+unfoldable pub rawSum : List Step → ℕ
+rawSum [] = 0
+rawSum (s ∷ ss) = rawOf s + rawSum ss
+
+-- with o nodes open, the steps leave the last of them with the last step and not before
+abbrev isEnd : List Step → Bool
+isEnd [] = true
+isEnd (s ∷ ss) = false
+
+unfoldable pub closesLast : ℕ → List Step → Bool
+closesLast o [] = false
+closesLast o (enter k ∷ ss) = closesLast (suc o) ss
+closesLast o (token k n ∷ ss) = closesLast o ss
+closesLast o (error c a ∷ ss) = closesLast o ss
+closesLast zero (leave ∷ ss) = false
+closesLast (suc zero) (leave ∷ ss) = isEnd ss
+closesLast (suc (suc o)) (leave ∷ ss) = closesLast (suc o) ss
+
+-- one tree whose root is a node of a kind
+pub record Rooted (k : ℕ) (ss : List Step) : Type 0 where
+  pub rest : List Step
+  pub first : ss ≡ enter k ∷ rest
+  pub whole : closesLast 1 rest ≡ true

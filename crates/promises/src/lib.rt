@@ -1,0 +1,1 @@
+// Proofs alone: what is promised of a done parse.
