@@ -106,13 +106,20 @@ pub if : {A : Type 0} {xs : Marks} {ys : A → Marks} (b : Bool) (x y : Acts A) 
 if true x y h k = h
 if false x y h k = k
 
--- a completed marker that nobody asks for
+-- a completed marker that nobody asks for: the newest, and the one before it
+pub less : {i : ℕ} {us o r : Marks} → Opens o (shut i ∷ us) r → Opens o us r
+less (extra p) = extra (less p)
+less (keep p) = extra p
+
+under : {i : ℕ} {x : Marker} {us o r : Marks} → Opens o (x ∷ shut i ∷ us) r → Opens o (x ∷ us) r
+under (extra p) = extra (under p)
+under (keep p) = keep (less p)
+
 pub forget : {A : Type 0} {i : ℕ} {us : Marks} {ys : A → Marks} (m : Acts A) → Run us m ys → Run (shut i ∷ us) m ys
-forget {i = i} {us = us} m h = record { runs = λ o r p. h .runs o r (less p) }
-  where
-    less : {o r : Marks} → Opens o (shut i ∷ us) r → Opens o us r
-    less (extra p) = extra (less p)
-    less (keep p) = extra p
+forget m h = record { runs = λ o r p. h .runs o r (less p) }
+
+pub lose : {A : Type 0} {xs : Marks} (m : Acts A) (i : A → ℕ) (ys : A → Marks) → Run xs m (λ a. shut (i a) ∷ ys a) → Run xs m ys
+lose m i ys h = record { runs = λ o r p. weaken m r (λ a t. Opens o (shut (i a) ∷ ys a) t) (λ a t. Opens o (ys a) t) (λ a t q. less q) (h .runs o r p) }
 
 -- The marker acts.
 closes-in : {i : ℕ} {o xs ys r : Marks} → Closes i xs ys → Opens o xs r → (t : Marks) × Closes i r t × Opens o ys t
@@ -144,24 +151,13 @@ run-complete i k t c = record { runs = λ o r p. (t, closes-in c p) }
 
 -- the newest open marker, whose completed one nobody asks for
 pub finish : (i k : ℕ) {us : Marks} → T (nodeKind k) → Run (fresh i ∷ us) (complete i k) (λ c. us)
-finish i k {us} t = record { runs = λ o r p. (t, unseen (closes-in one p)) }
-  where
-    less : {o r : Marks} → Opens o (shut i ∷ us) r → Opens o us r
-    less (extra p) = extra (less p)
-    less (keep p) = extra p
-
-    unseen : {o r : Marks} → ((t : Marks) × Closes i r t × Opens o (shut i ∷ us) t) → (t : Marks) × Closes i r t × Opens o us t
-    unseen u = (u .0, u .1, less (u .2))
+finish i k {us} t = lose (complete i k) (λ c. i) (λ c. us) (run-complete i k t one)
 
 pub run-abandon : (i : ℕ) {xs ys : Marks} → Drops i xs ys → Run xs (abandon i) (λ a. ys)
 run-abandon i d = record { runs = λ o r p. drops-in d p }
 
 pub run-precede : (c : Completed) (us : Marks) → Run (shut (c .pos) ∷ us) (precede c) (λ j. made j ∷ us)
 run-precede c us = record { runs = λ o r p. (has-in here p, λ j. keep (less p)) }
-  where
-    less : {o r : Marks} → Opens o (shut (c .pos) ∷ us) r → Opens o us r
-    less (extra p) = extra (less p)
-    less (keep p) = extra p
 
 -- a fresh marker up to the completed one before it
 pub run-extend : (c : Completed) (m : ℕ) (us : Marks) → Run (shut (c .pos) ∷ fresh m ∷ us) (extendTo c m) (λ a. shut (a .pos) ∷ us)
@@ -285,11 +281,7 @@ pub unread : {A : Type 0} {xs : Marks} (m : Acts A) → Run xs m none → Run {A
 unread m h = then m _ none h (λ a. ends tt none)
 
 pub unasked : {xs : Marks} (m : Acts Completed) → Run xs m made-of → Run xs m none
-unasked m h = record { runs = λ o r p. weaken m r (λ c t. Opens o (made-of c) t) (λ c t. Opens o [] t) (λ c t q. less q) (h .runs o r p) }
-  where
-    less : {i : ℕ} {o r : Marks} → Opens o (shut i ∷ []) r → Opens o [] r
-    less (extra p) = extra (less p)
-    less (keep p) = extra p
+unasked m h = lose m (λ c. c .pos) none h
 
 -- `if c { m }`
 pub perhaps : (b : Bool) (m : Acts (Unit {0})) → Run [] m none → Run [] (pick b m (done tt)) none
@@ -305,15 +297,4 @@ branch false x y h k = k
 
 -- the open marker before the newest one
 pub closing-under : {B : Type 0} {x : Marker} {us : Marks} {zs : B → Marks} (i k : ℕ) (f : Completed → Acts B) → T (nodeKind k) → ((c : Completed) → Run (x ∷ us) (f c) zs) → Run (x ∷ fresh i ∷ us) (complete i k >>= f) zs
-closing-under {x = x} {us = us} i k f t h = then _ f (λ c. x ∷ us) (record { runs = λ o r p. (t, unseen (closes-in (there one) p)) }) h
-  where
-    less : {o r : Marks} → Opens o (shut i ∷ us) r → Opens o us r
-    less (extra p) = extra (less p)
-    less (keep p) = extra p
-
-    under : {o r : Marks} → Opens o (x ∷ shut i ∷ us) r → Opens o (x ∷ us) r
-    under (extra p) = extra (under p)
-    under (keep p) = keep (less p)
-
-    unseen : {o r : Marks} → ((t : Marks) × Closes i r t × Opens o (x ∷ shut i ∷ us) t) → (t : Marks) × Closes i r t × Opens o (x ∷ us) t
-    unseen u = (u .0, u .1, under (u .2))
+closing-under {x = x} {us = us} i k f t h = then _ f (λ c. x ∷ us) (record { runs = λ o r p. let u = closes-in (there one) p in (t, (u .0, u .1, under (u .2))) }) h

@@ -9,7 +9,7 @@ use Rattle.grammar.specs.declared.Got.{Got}
 use Rattle.grammar.specs.declared.Got.the-variants.{Is, Nothing}
 use Rattle.grammar.specs.Grammar.{Counted}
 use Rattle.markers.proofs.Marks.{Marker.fresh, Marker.shut, Marks}
-use Rattle.markers.proofs.Calculus.{Opens, Opens.extra, Opens.keep, Run, none, weaken}
+use Rattle.markers.proofs.Calculus.{Opens, Run, none, weaken, less}
 
 -- an expression that was read is completed; none leaves nothing
 abbrev pub gotten : Got → Marks
@@ -25,10 +25,6 @@ handed Fresh = []
 pub unseen : {xs : Marks} (m : Acts Got) → Run xs m gotten → Run xs m none
 unseen m h = record { runs = λ o r p. weaken m r (λ g t. Opens o (gotten g) t) (λ g t. Opens o [] t) (λ g t q. by g q) (h .runs o r p) }
   where
-    less : {i : ℕ} {o r : Marks} → Opens o (shut i ∷ []) r → Opens o [] r
-    less (extra p) = extra (less p)
-    less (keep p) = extra p
-
     by : {o r : Marks} (g : Got) → Opens o (gotten g) r → Opens o [] r
     by (Is cm block) q = less q
     by Nothing q = q

@@ -121,6 +121,17 @@ pub bare-extends : (n i j : ℕ) (l : List Event) {o o′ : Marks} → Extends i
 bare-extends n i j l (here d) h = drops-at j i l d (h .2) .1
 bare-extends n i j l (there {x = x} t) h = bare-extends (spot x) i j l t (h .2)
 
+bare-tomb : (v : Event) → isBare v ≡ true → isTomb v ≡ true
+bare-tomb (start k d) h = by (eqb k 0) h
+  where
+    by : (b : Bool) → both b (eqb d 0) ≡ true → b ≡ true
+    by true q = refl
+    by false q = q
+bare-tomb finish h = h
+bare-tomb (token k n) h = h
+bare-tomb (error c a) h = h
+bare-tomb (none a b) h = h
+
 -- `complete`: a kind, and a finish
 module _ (l : List Event) (i k : ℕ) (bare : isBare (at l i) ≡ true) where
   named-reach : (v : Event) → isBare v ≡ true → reach (withKind k v) ≡ 0
@@ -143,20 +154,6 @@ module _ (l : List Event) (i k : ℕ) (bare : isBare (at l i) ≡ true) where
   named-fits (token j n) f h = apart h
   named-fits (error c a) f h = apart h
   named-fits (none a b) f h = apart h
-
-  bare-tomb : (v : Event) → isBare v ≡ true → isTomb v ≡ true
-  bare-tomb (start j d) h = by (eqb j 0) h
-    where
-      by : (b : Bool) → both b (eqb d 0) ≡ true → b ≡ true
-      by true q = refl
-      by false q = q
-  bare-tomb finish h = h
-  bare-tomb (token j n) h = h
-  bare-tomb (error c a) h = h
-  bare-tomb (none a b) h = h
-
-  v : Event
-  v = withKind k (at l i)
 
   is-start : isStart (at l i) ≡ true
   is-start = bare-start (at l i) bare
@@ -202,22 +199,11 @@ live-pop n l {o} {o′} q d h =
     let r = drops-at (length l) n l d (h .marks) in
     let t : length (take n l) ≡ n = length-take-le n l (omega arith) in
     record {
-      balance = balanced-take 0 0 l n (omega arith) (by (at l n) (r .1)) (h .balance);
+      balance = balanced-take 0 0 l n (omega arith) (bare-tomb (at l n) (r .1)) (h .balance);
       links = links-take l n q (r .2) (h .links);
       sounds = sounds-take l n (omega arith) (h .sounds);
       marks = rw t (fits-popped n l q d (rw q at (h .marks)));
     }
-  where
-    by : (v : Event) → isBare v ≡ true → isTomb v ≡ true
-    by (start j e) h = on (eqb j 0) h
-      where
-        on : (b : Bool) → both b (eqb e 0) ≡ true → b ≡ true
-        on true z = refl
-        on false z = z
-    by finish h = h
-    by (token j m) h = h
-    by (error c a) h = h
-    by (none a b) h = h
 
 -- Distances: the start at i points to a start at j, behind it.
 module _ (l : List Event) (i j : ℕ) (si : isStart (at l i) ≡ true) (sj : isStart (at l j) ≡ true) (up : i < j) where
