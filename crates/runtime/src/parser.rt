@@ -175,6 +175,9 @@ impl Parser {
         requires { ⌜ Fit self ⌝ }
         ensures { λ r. ⌜ r ≡ sees (env (now (kinds .entry)) (now (joints .entry))) self kind ⌝ }
     {
+        if input::is_plain(kind) {
+            return input::kind(kinds, self.refused, self.pos) == kind;
+        }
         self.nth_at(kinds, joints, 0, kind)
     }
 
@@ -243,7 +246,7 @@ impl Parser {
         ensures { λ r. ⌜ Does (env (now (kinds .entry)) (now (joints .entry))) (acts.eat kind) (view self (now (room .entry))) (r .yes) (view (r .p) (now (room .exit))) ⌝ }
     {
         if self.at(kinds, joints, kind) {
-            let n = input::raw_count(input::parts_of(kind));
+            let n = input::raw_of(kind);
             let p = self.do_bump(kinds, joints, room, kind, n);
             return Told { p, yes: true };
         }

@@ -1,0 +1,27 @@
+-- `parser::Parser::at` meets its contract: a kind that is plainly one token is looked at by itself. Assumes nothing.
+use mathlib.Core.Path.{sym}
+use borrow.Author.Needs.{needs}
+use Rattle.runtime.specs.Input.{env}
+use Rattle.runtime.proofs.Plain.{plain-stands}
+use Rattle.runtime.proofs.parser.Parser.at.Statement.{statement}
+use Rattle.runtime.proofs.parser.Parser.at.Tie as tie
+
+is-plain-requires : tie.Need-is-plain-requires
+is-plain-requires c κs = search needs
+
+kind-requires : tie.Need-kind-requires
+kind-requires c κs = search needs
+
+returns : tie.Need-returns
+returns c =
+    let a = c .before .before .before .before .before .args in
+    rw (c .kind .ensures) (sym (plain-stands (env (a .kinds .now) (a .joints .now)) (a .self .refused) (a .self .pos) (a .kind) (c .before .before .is-plain .ensures (c .before .if1 .taken))))
+
+nth-at-requires : tie.Need-nth-at-requires
+nth-at-requires c κs = search needs
+
+returns-2 : tie.Need-returns-2
+returns-2 c = c .nth-at .ensures
+
+pub at-spec : {M : Type 1} → statement M
+at-spec = tie.close (tie.spec is-plain-requires kind-requires returns nth-at-requires returns-2)
