@@ -1,6 +1,7 @@
 // Lists of events as lines of text, and their steps as lines: the listing of docs/RULES.md, section 9.
+pub mod out;
 pub mod read;
-mod show;
+pub mod show;
 
 use read::List;
 use read::list_at;

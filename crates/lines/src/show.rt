@@ -10,13 +10,13 @@ fn wide(b: u8) -> u64
 }
 
 // The byte at a place, 0 past the end; and the number in two bytes there.
-fn byte(file: &[u8], at: usize) -> u64
+pub fn byte(file: &[u8], at: usize) -> u64
     ensures { λ r. ⌜ r < 256 ⌝ }
 {
     if at < file.len() { wide(file[at]) } else { 0 }
 }
 
-fn number(file: &[u8], at: usize) -> u64
+pub fn number(file: &[u8], at: usize) -> u64
     requires { ⌜ at < 1048584 ⌝ }
     ensures { λ r. ⌜ r < 65536 ⌝ }
 {
@@ -24,7 +24,7 @@ fn number(file: &[u8], at: usize) -> u64
 }
 
 // The record behind the one at a place.
-fn next(file: &[u8], at: usize) -> usize
+pub fn next(file: &[u8], at: usize) -> usize
     requires { ⌜ at < length (now file) ⌝ }
     requires { ⌜ at < 1048576 ⌝ }
     ensures { λ r. ⌜ (at < r) × (r ≤ length (now (file .entry))) ⌝ }

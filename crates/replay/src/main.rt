@@ -16,8 +16,8 @@ mod read;
 mod show;
 
 use cases::answer;
+use lines::out::flush;
 use lines::read::line_end;
-use show::flush;
 ghost use Prim.Native.Nat.{_≤_, _<_};
 ghost use lib.ListN.{length};
 

@@ -1,11 +1,11 @@
--- `replay::show::put_text` is safe and ends. Assumes nothing.
+-- `lines::out::put_text` is safe and ends. Assumes nothing.
 use native.Mathlib.Omega.{arith}
 use mathlib.Core.Path.{_≡_}
 use borrow.Author.Needs.{needs}
 use Prim.Native.Nat.{_-_, _≤_}
 use lib.ListN.{length}
-use Rattle.replay.proofs.show.put_text.Statement.{statement}
-use Rattle.replay.proofs.show.put_text.Tie as tie
+use Rattle.lines.proofs.out.put_text.Statement.{statement}
+use Rattle.lines.proofs.out.put_text.Tie as tie
 
 abbrev Inv-loop : tie.InvT-loop
 Inv-loop out₀ at text n₀ i₀ out n i = (i ≤ length text) × (length out ≡ length out₀)
