@@ -1,0 +1,277 @@
+/*
+ * Runs each function of oq3.h and each number that it can say. What is expected is written from docs/RULES.md. Around every lent room there
+ * are guard words, and each call is followed by a look at all that it must not have touched.
+ */
+#include <stdio.h>
+#include <string.h>
+
+#include "oq3.h"
+
+#define GUARD 16 /* elements on both sides of a room */
+#define WORDS 45016 /* 22,508 events: the least room in which `def f ( 3` is refused with 7 (docs/PANICS.md) */
+
+enum { L_PAREN = 5, MINUS = 37, DEF_KW = 58, DELAY_KW = 63, INT_NUMBER = 99, IDENT = 115, SEMICOLON = 3, EQ = 32, EQ2 = 33, EOF_KIND = 1,
+       BIN_EXPR = 160, IDENTIFIER = 187 };
+
+static int failed;
+
+#define IS(what, expected) is(__LINE__, #what, (uint64_t)(what), (uint64_t)(expected))
+
+static void is(int line, const char *what, uint64_t got, uint64_t expected)
+{
+    if (got != expected) {
+        printf("test.c:%d: %s is %llu, expected %llu\n", line, what, (unsigned long long)got, (unsigned long long)expected);
+        failed = 1;
+    }
+}
+
+/* The rooms with their guards. All is filled with 0xa5 before a call. */
+static uint16_t kinds_all[GUARD + OQ3_MOST_TOKENS + 1 + GUARD], *const kinds = kinds_all + GUARD;
+static uint64_t joints_all[GUARD + 129 + GUARD], *const joints = joints_all + GUARD;
+static uint32_t room_all[GUARD + OQ3_MOST_ROOM + 2 + GUARD], *const room = room_all + GUARD;
+static uint8_t steps_all[GUARD + 1024 + GUARD], *const steps = steps_all + GUARD;
+static uint64_t answer_all[GUARD + 4 + GUARD], *const answer = answer_all + GUARD;
+
+static uint16_t kinds_before[GUARD + OQ3_MOST_TOKENS + 1 + GUARD];
+static uint64_t joints_before[GUARD + 129 + GUARD];
+static uint32_t room_before[GUARD + OQ3_MOST_ROOM + 2 + GUARD];
+static uint8_t steps_before[GUARD + 1024 + GUARD];
+
+static void fill(void)
+{
+    memset(kinds_all, 0xa5, sizeof kinds_all);
+    memset(joints_all, 0xa5, sizeof joints_all);
+    memset(room_all, 0xa5, sizeof room_all);
+    memset(steps_all, 0xa5, sizeof steps_all);
+}
+
+static void begin(void)
+{
+    memset(answer_all, 0xa5, sizeof answer_all);
+    memcpy(kinds_before, kinds_all, sizeof kinds_all);
+    memcpy(joints_before, joints_all, sizeof joints_all);
+    memcpy(room_before, room_all, sizeof room_all);
+    memcpy(steps_before, steps_all, sizeof steps_all);
+}
+
+/* Whether all bytes of `all` outside of the elements [from, from + count) are as in `before`. */
+static int kept(const void *all, const void *before, size_t size, size_t each, size_t from, size_t count)
+{
+    const uint8_t *a = (const uint8_t *)all, *b = (const uint8_t *)before;
+    return memcmp(a, b, from * each) == 0 && memcmp(a + (from + count) * each, b + (from + count) * each, size - (from + count) * each) == 0;
+}
+
+static uint8_t answer_before[sizeof answer_all];
+
+/* After a call: it may have changed so many words of the room, bytes of the step room and words of the answer, and nothing else. */
+static void ended(int line, size_t room_length, size_t steps_length, size_t answer_length)
+{
+    memset(answer_before, 0xa5, sizeof answer_before);
+    is(line, "kinds kept", (uint64_t)kept(kinds_all, kinds_before, sizeof kinds_all, 2, 0, 0), 1);
+    is(line, "joint words kept", (uint64_t)kept(joints_all, joints_before, sizeof joints_all, 8, 0, 0), 1);
+    is(line, "words beside the room kept", (uint64_t)kept(room_all, room_before, sizeof room_all, 4, GUARD, room_length), 1);
+    is(line, "bytes beside the step room kept", (uint64_t)kept(steps_all, steps_before, sizeof steps_all, 1, GUARD, steps_length), 1);
+    is(line, "words beside the answer kept", (uint64_t)kept(answer_all, answer_before, sizeof answer_all, 8, GUARD, answer_length), 1);
+}
+
+/* A parse: its number, place, events and lookups, and of the room how many words may change. */
+static void parses(int line, uint32_t entry, uint32_t mode, size_t tokens, size_t joint_words, size_t words, size_t answers,
+                   uint32_t number, uint64_t place, uint64_t events, uint64_t lookups)
+{
+    size_t i, untouched = number >= 1 && (number <= 4 || number >= 100), used;
+    begin();
+    is(line, "the number", oq3_parse(entry, mode, kinds, tokens, joints, joint_words, room, words, answer, answers), number);
+    ended(line, untouched ? 0 : words, 0, number == OQ3_NO_ANSWER_ROOM ? 0 : 3);
+    if (number != OQ3_NO_ANSWER_ROOM) {
+        is(line, "the place", answer[0], place);
+        is(line, "the events", answer[1], events);
+        is(line, "the lookups", answer[2], lookups);
+    }
+    if (!untouched) {
+        used = 0;
+        for (i = (size_t)(2 * events); i < words; i++) {
+            used += room[i] != 0;
+        }
+        is(line, "words behind the list that are not 0", used, 0);
+    }
+}
+
+static void list(const uint32_t *words, size_t count)
+{
+    fill();
+    memcpy(room, words, count * sizeof *words);
+}
+
+static void checks(int line, size_t words, size_t answers, uint32_t number, uint64_t place)
+{
+    begin();
+    is(line, "the number", oq3_check(room, words, answer, answers), number);
+    ended(line, 0, 0, number == OQ3_NO_ANSWER_ROOM ? 0 : 1);
+    if (number != OQ3_NO_ANSWER_ROOM) {
+        is(line, "the place", answer[0], place);
+    }
+}
+
+static void resolves(int line, size_t words, size_t bytes, size_t answers, uint32_t number, uint64_t place)
+{
+    begin();
+    is(line, "the number", oq3_resolve(room, words, steps, bytes, answer, answers), number);
+    ended(line, number == OQ3_DONE ? words : 0, number == OQ3_DONE ? (size_t)place : 0, number == OQ3_NO_ANSWER_ROOM ? 0 : 1);
+    if (number != OQ3_NO_ANSWER_ROOM) {
+        is(line, "the place", answer[0], place);
+    }
+}
+
+#define PARSES(...) parses(__LINE__, __VA_ARGS__)
+#define CHECKS(...) checks(__LINE__, __VA_ARGS__)
+#define RESOLVES(...) resolves(__LINE__, __VA_ARGS__)
+
+static void tokens(const uint16_t *list_of, size_t count)
+{
+    fill();
+    memset(joints_all, 0, sizeof joints_all);
+    memcpy(kinds, list_of, count * sizeof *kinds);
+}
+
+static void same(uint16_t kind, size_t count)
+{
+    size_t i;
+    fill();
+    memset(joints_all, 0, sizeof joints_all);
+    for (i = 0; i < count; i++) {
+        kinds[i] = kind;
+    }
+}
+
+int main(void)
+{
+    size_t i;
+
+    /* An empty source file: a start and its finish, no lookup. Rooms of no elements are lent with a pointer into their guards. */
+    const uint32_t empty[] = { OQ3_EVENT_START + 121, 0, OQ3_EVENT_FINISH, 0 };
+    fill();
+    PARSES(OQ3_SOURCE_FILE, 0, 0, 0, 4, 3, OQ3_DONE, 0, 2, 0);
+    is(__LINE__, "the list", (uint64_t)memcmp(room, empty, sizeof empty), 0);
+    PARSES(OQ3_SOURCE_FILE, 0, 0, 0, 3, 3, OQ3_NO_EVENT_ROOM, 0, 0, 0);
+    PARSES(OQ3_SOURCE_FILE, 0, 0, 0, 0, 3, OQ3_NO_EVENT_ROOM, 0, 0, 0);
+
+    /* a == b, the two = touching; the words behind the list, an odd last one too, become 0. */
+    const uint16_t equal[] = { IDENT, EQ, EQ, IDENT };
+    const uint8_t equal_file[] = {
+        2, 0, OQ3_STEP_ENTER, 0, BIN_EXPR, 0,
+        2, 0, OQ3_STEP_ENTER, 0, IDENTIFIER, 0, 3, 0, OQ3_STEP_TOKEN, 0, IDENT, 0, 1, 0, 0, OQ3_STEP_LEAVE, 0,
+        3, 0, OQ3_STEP_TOKEN, 0, EQ2, 0, 2,
+        2, 0, OQ3_STEP_ENTER, 0, IDENTIFIER, 0, 3, 0, OQ3_STEP_TOKEN, 0, IDENT, 0, 1, 0, 0, OQ3_STEP_LEAVE, 0,
+        0, 0, OQ3_STEP_LEAVE, 0
+    };
+    tokens(equal, 4);
+    joints[0] = 2;
+    begin();
+    IS(oq3_parse(OQ3_EXPRESSION, OQ3_MODE_SPECIFICATION, kinds, 4, joints, 1, room, 101, answer, 4), OQ3_DONE);
+    ended(__LINE__, 101, 0, 3);
+    IS(answer[0], 4);
+    for (i = 2 * (size_t)answer[1]; i < 101; i++) {
+        IS(room[i], 0);
+    }
+    size_t words = 2 * (size_t)answer[1];
+    CHECKS(words, 1, OQ3_DONE, words / 2);
+    CHECKS(words, 0, OQ3_NO_ANSWER_ROOM, 0);
+    CHECKS(words + 1, 1, OQ3_FAULTY_LIST, words / 2);
+    CHECKS(words + 2, 1, OQ3_FAULTY_LIST, words / 2);
+    RESOLVES(words, 0, 0, OQ3_NO_ANSWER_ROOM, 0);
+    RESOLVES(words, 0, 1, OQ3_NO_STEP_ROOM, sizeof equal_file);
+    RESOLVES(words, sizeof equal_file - 1, 1, OQ3_NO_STEP_ROOM, sizeof equal_file);
+    RESOLVES(words, 1024, 2, OQ3_DONE, sizeof equal_file);
+    is(__LINE__, "the step file", (uint64_t)memcmp(steps, equal_file, sizeof equal_file), 0);
+    for (i = 0; i < words; i++) {
+        IS(room[i], i % 2 == 0 ? OQ3_EVENT_START : 0);
+    }
+
+    /* The list of docs/RULES.md, section 9: 9 steps in 51 bytes. */
+    const uint32_t nine[] = {
+        65536, 1, 65536 + 40, 3, 196608 + 50, 1, 131072, 0, 65536 + 41, 0, 196608 + 51, 1, 65536, 1, 65536 + 40, 0, 196608 + 50, 1,
+        131072, 0, 131072, 0
+    };
+    list(nine, 22);
+    CHECKS(22, 1, OQ3_DONE, 11);
+    RESOLVES(22, 50, 1, OQ3_NO_STEP_ROOM, 51);
+    RESOLVES(22, 51, 1, OQ3_DONE, 51);
+
+    /* An error is a step, and the largest record. */
+    const uint32_t error[] = { OQ3_EVENT_ERROR + 1, SEMICOLON };
+    const uint8_t error_file[] = { 4, 0, OQ3_STEP_ERROR, 0, 1, 0, SEMICOLON, 0 };
+    list(error, 2);
+    RESOLVES(2, OQ3_STEP_BYTES(1), 1, OQ3_DONE, 8);
+    is(__LINE__, "the step file", (uint64_t)memcmp(steps, error_file, sizeof error_file), 0);
+
+    /* 9: a depth below zero at event 1, one above zero at the end, a distance past the end, words that are no event. */
+    const uint32_t below[] = { OQ3_EVENT_TOKEN + IDENT, 1, OQ3_EVENT_FINISH, 0 };
+    const uint32_t above[] = { OQ3_EVENT_START + 40, 0 };
+    const uint32_t beyond[] = { OQ3_EVENT_START, 1 };
+    list(below, 4);
+    CHECKS(4, 1, OQ3_FAULTY_LIST, 1);
+    RESOLVES(4, 1024, 1, OQ3_FAULTY_LIST, 1);
+    list(above, 2);
+    RESOLVES(2, 1024, 1, OQ3_FAULTY_LIST, 1);
+    list(beyond, 2);
+    RESOLVES(2, 1024, 1, OQ3_FAULTY_LIST, 0);
+    list(beyond, 0);
+    CHECKS(2, 1, OQ3_FAULTY_LIST, 0);
+    CHECKS(0, 1, OQ3_DONE, 0);
+    RESOLVES(0, 0, 1, OQ3_DONE, 0);
+
+    /* 2: more than 65,536 events; a word more than 65,536 is a 9. */
+    CHECKS(OQ3_MOST_ROOM + 2, 1, OQ3_TOO_LONG, 0);
+    CHECKS(OQ3_MOST_ROOM + 1, 1, OQ3_FAULTY_LIST, OQ3_MOST_EVENTS);
+    RESOLVES(OQ3_MOST_ROOM + 2, 1024, 1, OQ3_TOO_LONG, 0);
+
+    /* 1 to 4 in their order, behind 100 and 101. */
+    same(IDENT, OQ3_MOST_TOKENS + 1);
+    kinds[7] = EOF_KIND;
+    PARSES(3, 2, OQ3_MOST_TOKENS + 1, 0, 64, 2, OQ3_NO_ANSWER_ROOM, 0, 0, 0);
+    PARSES(3, 2, OQ3_MOST_TOKENS + 1, 0, 64, 3, OQ3_BAD_ENTRY, 0, 0, 0);
+    PARSES(OQ3_ITEM, 2, OQ3_MOST_TOKENS + 1, 0, 64, 3, OQ3_BAD_MODE, 0, 0, 0);
+    PARSES(OQ3_ITEM, 1, OQ3_MOST_TOKENS + 1, 0, 64, 3, OQ3_TOO_LONG, 0, 0, 0);
+    PARSES(OQ3_ITEM, 1, OQ3_MOST_TOKENS, OQ3_JOINT_WORDS(OQ3_MOST_TOKENS) - 1, 64, 3, OQ3_FEW_JOINTS, 0, 0, 0);
+    PARSES(OQ3_ITEM, 1, OQ3_MOST_TOKENS, OQ3_JOINT_WORDS(OQ3_MOST_TOKENS), 64, 3, OQ3_BAD_KIND, 7, 0, 0);
+    PARSES(OQ3_ITEM, 1, 65, 1, 64, 3, OQ3_FEW_JOINTS, 0, 0, 0);
+    PARSES(OQ3_ITEM, 1, 8, 1, 64, 3, OQ3_BAD_KIND, 7, 0, 0);
+
+    /* 5: the room holds the start, and not the event of the token, which is then not consumed. */
+    same(IDENT, 1);
+    PARSES(OQ3_EXPRESSION, 0, 1, 1, 2, 3, OQ3_NO_EVENT_ROOM, 0, 0, 0);
+
+    /* 6: an expression behind 64 minus signs is the 65th unfinished call; behind 63 it is done. */
+    same(MINUS, 65);
+    kinds[63] = IDENT;
+    begin();
+    IS(oq3_parse(OQ3_EXPRESSION, 0, kinds, 64, joints, 1, room, 1000, answer, 3), OQ3_DONE);
+    ended(__LINE__, 1000, 0, 3);
+    IS(answer[0], 64);
+    same(MINUS, 65);
+    kinds[64] = IDENT;
+    PARSES(OQ3_EXPRESSION, 0, 65, 2, 1000, 3, OQ3_TOO_DEEP, 64, 0, 0);
+
+    /* 7: a typed parameter that is none, in the least room and in one that is an event smaller. */
+    const uint16_t spins[] = { DEF_KW, IDENT, L_PAREN, INT_NUMBER };
+    tokens(spins, 4);
+    PARSES(OQ3_ITEM, 0, 4, 1, WORDS, 3, OQ3_STUCK, 3, 0, 0);
+    PARSES(OQ3_ITEM, 0, 4, 1, WORDS - 2, 3, OQ3_NO_EVENT_ROOM, 3, 0, 0);
+
+    /* 8: `delay` without its `[`. */
+    same(DELAY_KW, 1);
+    PARSES(OQ3_SOURCE_FILE, 0, 1, 1, 100, 3, OQ3_STOPPED, 1, 0, 0);
+
+    /* The tags of an event, and the limits. */
+    IS(OQ3_EVENT_START, 65536);
+    IS(OQ3_EVENT_FINISH, 131072);
+    IS(OQ3_EVENT_TOKEN, 196608);
+    IS(OQ3_EVENT_ERROR, 262144);
+    IS(OQ3_MOST_ROOM, 2 * OQ3_MOST_EVENTS);
+    IS(OQ3_STEP_BYTES(OQ3_MOST_EVENTS), OQ3_MOST_STEPS);
+
+    if (!failed) {
+        printf("examples: every call and every number of oq3.h is as docs/RULES.md has it\n");
+    }
+    return failed;
+}

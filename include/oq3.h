@@ -1,0 +1,127 @@
+/*
+ * Grisolemp: a proved parser of OpenQASM 3 token lists, for C99 and C++ on x86-64 Linux.
+ *
+ * Link liboq3.a, which tools/library builds. It needs nothing but memset. The three functions take what is lent, return a number and write
+ * into lent rooms alone. They use no heap and no global state: they are re-entrant, and what one call answers depends on what it is lent.
+ * docs/RULES.md says what each does, to the last word; docs/KINDS.md and docs/MESSAGES.md have the kinds and the error codes.
+ *
+ * Nothing checks this header against the source (crates/oq3/src/lib.rt): it is kept by hand, and examples/c/test.c runs it.
+ *
+ * What a caller owes, which no call can test:
+ *   - A pointer is valid for as many elements as the length behind it says, and aligned for its type. With a length of 0 it is still
+ *     not null and aligned, and is not read.
+ *   - No two rooms of one call overlap, and nothing else reads or writes them while it runs.
+ * Everything else may have any value: there is no further condition on any number, word or length.
+ */
+#ifndef OQ3_H
+#define OQ3_H
+
+#include <stddef.h>
+#include <stdint.h>
+
+#ifdef __cplusplus
+extern "C" {
+#endif
+
+/* What a call returns: done, or why it is refused. The place is the first word of the answer room. "consumed" are the tokens consumed. */
+enum {
+    OQ3_DONE = 0,            /* place: oq3_parse: consumed; oq3_check: events; oq3_resolve: bytes written */
+    OQ3_BAD_MODE = 1,        /* the mode is neither 0 nor 1; place 0 */
+    OQ3_TOO_LONG = 2,        /* more than 8,192 tokens, or a list of more than 65,536 events; place 0 */
+    OQ3_FEW_JOINTS = 3,      /* fewer joint words than tokens / 64, rounded up; place 0 */
+    OQ3_BAD_KIND = 4,        /* a kind that is not permitted; place: the first such token */
+    OQ3_NO_EVENT_ROOM = 5,   /* one more event than the room holds; place: consumed */
+    OQ3_TOO_DEEP = 6,        /* nested deeper than 64 counted calls (docs/COUNTED.md); place: consumed */
+    OQ3_STUCK = 7,           /* the 10,001st lookup since a token was consumed; place: consumed */
+    OQ3_STOPPED = 8,         /* where oq3_parser 0.7.0 panics (docs/PANICS.md); place: consumed */
+    OQ3_FAULTY_LIST = 9,     /* the list is not well formed; place: the first faulty event */
+    OQ3_NO_STEP_ROOM = 10,   /* the step room is too small; place: the bytes needed */
+    OQ3_NO_ANSWER_ROOM = 100, /* the answer room is too short: nothing is read or written, and there is no place */
+    OQ3_BAD_ENTRY = 101      /* oq3_parse: the entry is none of the three; place 0 */
+};
+
+/* Where a parse begins. */
+enum { OQ3_SOURCE_FILE = 0, OQ3_ITEM = 1, OQ3_EXPRESSION = 2 };
+
+/* How operators bind: as oq3_parser 0.7.0 has them, or as the OpenQASM 3 specification has them. */
+enum { OQ3_MODE_CRATE = 0, OQ3_MODE_SPECIFICATION = 1 };
+
+/* The limits. */
+enum {
+    OQ3_MOST_TOKENS = 8192,
+    OQ3_MOST_EVENTS = 65536,
+    OQ3_MOST_ROOM = 131072,      /* words of the largest event room: two for each event */
+    OQ3_MOST_STEPS = 524288      /* bytes of the longest step file: eight for each event */
+};
+
+/* The least number of joint words for so many tokens. */
+#define OQ3_JOINT_WORDS(tokens) (((size_t)(tokens) + 63) / 64)
+
+/* A step room of so many bytes is enough for every list of so many events. */
+#define OQ3_STEP_BYTES(events) (8 * (size_t)(events))
+
+/*
+ * Parses tokens into a list of events.
+ *
+ *   kinds   one kind for each token, trivia left out
+ *   joints  token i touches the next one where bit i % 64, counted from the lowest, of joints[i / 64] is 1; further words and bits are ignored
+ *   room    the event room, two words for each event, of any contents; an odd last word holds none
+ *   answer  at least 3 words: the place, the events and the lookups. A refusal has 0 for the last two. Further words stay
+ *
+ * Done, the events are the first 2 * answer[1] words of the room, and every word behind them is 0. Refused with 5 to 8 the whole room is 0.
+ * Refused with 1 to 4, 100 or 101 it is untouched.
+ *
+ * How large a room? No bound by the number of tokens is known. OQ3_MOST_ROOM words are always enough: in a room of that size a 5 means that
+ * the run passes the limit of 65,536 events itself, and no larger room helps. A smaller room is never wrong: what does not fit is refused
+ * with 5. The run may hold a few more events at one moment than the list that it leaves. Each word of the room that is lent beyond the list
+ * is written once, so a room that is far too large costs time (docs/SPEED.md).
+ */
+uint32_t oq3_parse(uint32_t entry, uint32_t mode,
+                   const uint16_t *kinds, size_t kinds_length,
+                   const uint64_t *joints, size_t joints_length,
+                   uint32_t *room, size_t room_length,
+                   uint64_t *answer, size_t answer_length);
+
+/*
+ * Whether a list of events is well formed: 0, 2 or 9. It changes nothing but answer[0], the place; the answer has at least 1 word.
+ * Of a parsed room, lend the list alone, 2 * events words: the zeros behind it are no events.
+ */
+uint32_t oq3_check(const uint32_t *words, size_t words_length,
+                   uint64_t *answer, size_t answer_length);
+
+/*
+ * Checks a list of events and resolves it into a step file: 0, 2, 9 or 10. The answer has at least 1 word.
+ *
+ * Done, the first answer[0] bytes of the step room are the file, its other bytes are as they were, and the list is used up: each event is a
+ * start without kind and distance. Refused, both rooms are untouched; after a 10 answer[0] is the number of bytes to lend, and the same
+ * list may be handed in again. A step room may have no bytes, so the size can be asked for.
+ */
+uint32_t oq3_resolve(uint32_t *words, size_t words_length,
+                     uint8_t *steps, size_t steps_length,
+                     uint64_t *answer, size_t answer_length);
+
+/*
+ * A step file is one record after the other: payload length in 2 bytes, record kind in 2 bytes, payload; all little-endian.
+ */
+enum {
+    OQ3_STEP_ENTER = 1,   /* kind, 2 bytes */
+    OQ3_STEP_LEAVE = 2,   /* no payload */
+    OQ3_STEP_TOKEN = 3,   /* kind, 2 bytes; raw count, 1 byte: how many tokens it is glued of, 1, 2 or 3 */
+    OQ3_STEP_ERROR = 4    /* code, 2 bytes; argument, 2 bytes: a kind or 0 */
+};
+
+/*
+ * An event is two words: the tag and what is added to it, and a second number.
+ */
+enum {
+    OQ3_EVENT_START = 65536,    /* + kind; the distance to its parent's start in events, 0 for none */
+    OQ3_EVENT_FINISH = 131072,  /* 0 */
+    OQ3_EVENT_TOKEN = 196608,   /* + kind; raw count */
+    OQ3_EVENT_ERROR = 262144    /* + code; argument */
+};
+
+#ifdef __cplusplus
+}
+#endif
+
+#endif
