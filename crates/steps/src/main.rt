@@ -5,7 +5,8 @@
 // `!item` and `!expr` choose the entry, and `!mode0` and `!mode1` the operators; a source file in mode 0 is parsed where there are none.
 //
 // A line of the tree is a node's kind, `KIND at PLACE` or `KIND (2 tokens) at PLACE` for a token, PLACE the number of its first raw token
-// from 0, or `error CODE at PLACE: TEXT`, PLACE the tokens before it. The last line says how it ended:
+// from 0, or `error CODE at PLACE: TEXT, found KIND`, PLACE the tokens before it and KIND the one that stands there. The last line says
+// how it ended:
 //
 //   done: 9 of 9 tokens, 24 events, 31 lookups, 0 errors    the tree stands before it; how many of the tokens were consumed
 //   refused NUMBER at PLACE: MEANING                        no tree
@@ -78,7 +79,7 @@ fn put_steps(
     words: &mut [u32],
     steps: &mut [u8],
     a: parse::Answer,
-    tokens: usize,
+    kinds: &[u16],
 ) -> usize
     requires { ⌜ length (now steps) ≤ 1048576 ⌝ }
 {
@@ -90,12 +91,12 @@ fn put_steps(
     if k > steps.len() {
         return 0;
     }
-    let s = put_tree(out, 0, &steps[0..k]);
-    put_done(out, s.at, a, tokens, s.errors)
+    let s = put_tree(out, 0, kinds, &steps[0..k]);
+    put_done(out, s.at, a, kinds.len(), s.errors)
 }
 
 // What an answer comes to as text.
-fn put_answer(out: &mut [u8], room: &mut [u32], a: parse::Answer, tokens: usize) -> usize {
+fn put_answer(out: &mut [u8], room: &mut [u32], a: parse::Answer, kinds: &[u16]) -> usize {
     if a.code != 0 {
         return put_refused(out, a.code, a.place as u64);
     }
@@ -104,7 +105,7 @@ fn put_answer(out: &mut [u8], room: &mut [u32], a: parse::Answer, tokens: usize)
         return 0;
     }
     let mut steps = steps_room();
-    put_steps(out, &mut room[0..k], &mut steps, a, tokens)
+    put_steps(out, &mut room[0..k], &mut steps, a, kinds)
 }
 
 // Parses what is asked for, and writes what comes of it.
@@ -117,7 +118,7 @@ fn run(a: Asked, kinds: &[u16], joints: &[u64]) {
     let mut room = words_room();
     let answer = parse::parse(entry, a.mode, &kinds[0..n], joints, &mut room);
     let mut out = io::large_buffer();
-    let k = put_answer(&mut out, &mut room, answer, n);
+    let k = put_answer(&mut out, &mut room, answer, &kinds[0..n]);
     flush(&out, k);
 }
 

@@ -58,13 +58,9 @@ fn put_token(out: &mut [u8], at: usize, kind: u64, raw: u64, place: u64) -> usiz
     put_place(out, n, place)
 }
 
-// An error, with the tokens passed before it; that of code 1 names the kind that is its argument.
-fn put_error(out: &mut [u8], at: usize, code: u64, argument: u64, place: u64) -> usize {
-    let n = put_text(out, at, b"error ");
-    let n = put_number(out, n, code);
-    let n = put_place(out, n, place);
-    let n = put_text(out, n, b": ");
-    let n = put_entry(out, n, &MESSAGES, code);
+// A message; that of code 1 names the kind that is its argument.
+fn put_message(out: &mut [u8], at: usize, code: u64, argument: u64) -> usize {
+    let n = put_entry(out, at, &MESSAGES, code);
     if code != 1 {
         return n;
     }
@@ -72,8 +68,35 @@ fn put_error(out: &mut [u8], at: usize, code: u64, argument: u64, place: u64) ->
     put_kind(out, n, argument)
 }
 
+// The kind that stands at a place, EOF behind the last token.
+fn found(kinds: &[u16], place: u64) -> u16 {
+    let i = place as usize;
+    if i > kinds.len() {
+        return reader::first_kind(&kinds[0..0]);
+    }
+    reader::first_kind(&kinds[i..])
+}
+
+// An error, with the tokens passed before it and the kind that stands there.
+fn put_error(
+    out: &mut [u8],
+    at: usize,
+    kinds: &[u16],
+    code: u64,
+    argument: u64,
+    place: u64,
+) -> usize {
+    let n = put_text(out, at, b"error ");
+    let n = put_number(out, n, code);
+    let n = put_place(out, n, place);
+    let n = put_text(out, n, b": ");
+    let n = put_message(out, n, code, argument);
+    let n = put_text(out, n, b", found ");
+    put_kind(out, n, found(kinds, place) as u64)
+}
+
 // What stands in the line of the step at a place.
-fn put_record(out: &mut [u8], at: usize, file: &[u8], i: usize, place: u64) -> usize
+fn put_record(out: &mut [u8], at: usize, kinds: &[u16], file: &[u8], i: usize, place: u64) -> usize
     requires { ⌜ i < 1048576 ⌝ }
 {
     let k = number(file, i + 2);
@@ -83,18 +106,25 @@ fn put_record(out: &mut [u8], at: usize, file: &[u8], i: usize, place: u64) -> u
     if k == 3 {
         return put_token(out, at, number(file, i + 4), byte(file, i + 6), place);
     }
-    put_error(out, at, number(file, i + 4), number(file, i + 6), place)
+    put_error(
+        out,
+        at,
+        kinds,
+        number(file, i + 4),
+        number(file, i + 6),
+        place,
+    )
 }
 
 // The line of the step at a place; a leave has none.
-fn put_step(out: &mut [u8], at: usize, file: &[u8], i: usize, w: Walk) -> usize
+fn put_step(out: &mut [u8], at: usize, kinds: &[u16], file: &[u8], i: usize, w: Walk) -> usize
     requires { ⌜ i < 1048576 ⌝ }
 {
     if number(file, i + 2) == 2 {
         return at;
     }
     let n = put_indent(out, at, w.depth);
-    let n = put_record(out, n, file, i, w.place);
+    let n = put_record(out, n, kinds, file, i, w.place);
     put(out, n, b'\n')
 }
 
@@ -124,8 +154,8 @@ fn walked(file: &[u8], i: usize, w: Walk) -> Walk
     v
 }
 
-// Puts the tree of a step file behind the first `at` bytes of the room.
-pub fn put_tree(out: &mut [u8], at: usize, file: &[u8]) -> Shown
+// Puts the tree of a step file of some tokens behind the first `at` bytes of the room.
+pub fn put_tree(out: &mut [u8], at: usize, kinds: &[u16], file: &[u8]) -> Shown
     requires { ⌜ length (now file) ≤ 1048576 ⌝ }
 {
     let mut n = at;
@@ -136,7 +166,7 @@ pub fn put_tree(out: &mut [u8], at: usize, file: &[u8]) -> Shown
         errors: 0,
     };
     while i < file.len() {
-        n = put_step(out, n, file, i, w);
+        n = put_step(out, n, kinds, file, i, w);
         w = walked(file, i, w);
         i = next(file, i);
     }

@@ -8,10 +8,10 @@ use Rattle.steps.proofs.tree.put_tree.Statement.{statement}
 use Rattle.steps.proofs.tree.put_tree.Tie as tie
 
 abbrev Inv-loop : tie.InvT-loop
-Inv-loop out₀ at file n₀ i₀ w₀ out n i w = (i ≤ length file) × (length out ≡ length out₀) × (w .depth ≤ i) × (w .place ≤ 255 * i) × (w .errors ≤ i)
+Inv-loop out₀ at kinds file n₀ i₀ w₀ out n i w = (i ≤ length file) × (length out ≡ length out₀) × (w .depth ≤ i) × (w .place ≤ 255 * i) × (w .errors ≤ i)
 
 abbrev μ-loop : tie.MeasureT-loop
-μ-loop out₀ at file n₀ i₀ w₀ out n i w = length file - i
+μ-loop out₀ at kinds file n₀ i₀ w₀ out n i w = length file - i
 
 loop-holds : tie.Need-loop-holds Inv-loop μ-loop
 loop-holds c = omega arith
