@@ -178,23 +178,32 @@ fn crate_turn(input: &Input, both: bool) {
     }
 }
 
-/// The least time of many rounds, for each of the sides: a round runs all of them, one after the other.
-fn best(sides: &mut [&mut dyn FnMut()]) -> Vec<f64> {
-    const ROUNDS: usize = 40;
-    let batch = Duration::from_millis(8);
+/// How many times as long as the first side each other side takes: the median of many rounds. A round runs all of them, one after the other,
+/// so what disturbs the machine for longer than a round disturbs them alike.
+fn ratios(sides: &mut [&mut dyn FnMut()]) -> Vec<f64> {
+    const ROUNDS: usize = 251;
+    let batch = Duration::from_millis(2);
     let mut turns = vec![1usize; sides.len()];
     for (side, turns) in sides.iter_mut().zip(&mut turns) {
         while timed(*turns, &mut **side) < batch {
             *turns *= 2;
         }
     }
-    let mut least = vec![f64::MAX; sides.len()];
+    let mut rounds: Vec<Vec<f64>> = vec![Vec::new(); sides.len() - 1];
     for _ in 0..ROUNDS {
-        for (i, side) in sides.iter_mut().enumerate() {
-            least[i] = least[i].min(timed(turns[i], &mut **side).as_secs_f64() / turns[i] as f64);
+        let times: Vec<f64> =
+            sides.iter_mut().zip(&turns).map(|(side, &turns)| timed(turns, &mut **side).as_secs_f64() / turns as f64).collect();
+        for (list, time) in rounds.iter_mut().zip(&times[1..]) {
+            list.push(time / times[0]);
         }
     }
-    least
+    rounds
+        .into_iter()
+        .map(|mut list| {
+            list.sort_by(f64::total_cmp);
+            list[ROUNDS / 2]
+        })
+        .collect()
 }
 
 fn time(path: &str) {
@@ -205,7 +214,7 @@ fn time(path: &str) {
         for both in [false, true] {
             let mut least = Lent::new(&case, words, bytes);
             let mut most = Lent::new(&case, LARGEST, LONGEST);
-            let times = best(&mut [
+            let found = ratios(&mut [
                 &mut || crate_turn(&input, both),
                 &mut || assert_eq!(black_box(&mut least).turn(both), DONE),
                 &mut || assert_eq!(black_box(&mut most).turn(both), DONE),
@@ -217,8 +226,8 @@ fn time(path: &str) {
                 errors,
                 entries::parse(&input).events(),
                 both,
-                times[1] / times[0],
-                times[2] / times[0]
+                found[0],
+                found[1]
             );
         }
     }
