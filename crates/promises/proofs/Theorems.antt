@@ -34,9 +34,9 @@ use Rattle.parse.specs.Parse.{Lent, Outcome, notPermitted, actsOf, ran, leaves,
 use Rattle.parse.proofs.Theorems.{hands-out}
 use Rattle.markers.proofs.Balance.{Balanced}
 use Rattle.markers.proofs.Marks.{Marker.fresh, Marker.made, Marker.shut, Marks}
-use Rattle.markers.proofs.Live.{Live}
+use Rattle.markers.proofs.Safe.{Safe}
 use Rattle.markers.proofs.Discipline.{Orderly, safe-orderly}
-use Rattle.markers.proofs.Calculus.{Opens, Opens.base, Opens.extra}
+use Rattle.markers.proofs.Calculus.{weaken, Opens, Opens.base, Opens.extra}
 use Rattle.promises.specs.Promised.{handed, stepsIn, CoverSteps, rawSum, Rooted}
 use Rattle.promises.proofs.Passing.{read, read-words, Chained, lands-there, scan-passes, live-passes}
 use Rattle.promises.proofs.Done.{kinds-small, orderly, fit-new, begins, holds-none, bounded, ended, well-made, event-count, few-events, handed-list}
@@ -112,14 +112,6 @@ module _ (l : Lent) (done : parsed l .answer .code ≡ 0) where
   pub raw-counts : rawSum (stepsIn (parsed l)) ≡ parsed l .answer .place
   raw-counts = let g = cover-sum (env (l .kinds) (l .joints)) (stepsIn (parsed l)) 0 (parsed l .answer .place) steps-cover in omega (arith, g)
 
-  -- Nothing is left open: every marker of the run was completed, extended or abandoned.
-  pub none-open : (o : Marks) × AllShut o × Live o (events (ran l))
-  none-open = let w = well-made l done in (w .0, shut-all (w .1), w .2)
-    where
-      shut-all : {o : Marks} → Opens [] [] o → AllShut o
-      shut-all base = tt
-      shut-all (extra p) = shut-all p
-
   module _ (source : l .entry ≡ SourceFile) where
     -- From the source-file entry every token is consumed,
     pub all-consumed : parsed l .answer .place ≡ length (l .kinds)
@@ -147,6 +139,15 @@ module _ (l : Lent) (done : parsed l .answer .code ≡ 0) where
             (sym source)
             (source-around (env (l .kinds) (l .joints)) (bounded l done) (tableOf (l .mode)) (l .room))
             (ended l done .0)
+
+-- Nothing is left open: from no marker an entry's acts end, whatever is seen on the way, with completed markers alone. Each other one was
+-- abandoned, or extended to a completed one.
+pub none-open : (entry : Entry) (mode : ℕ) → Safe (actsOf entry mode) [] (λ a o. AllShut o)
+none-open entry mode = weaken (actsOf entry mode) [] (λ a o. Opens [] [] o) (λ a o. AllShut o) (λ a o p. shut-all p) (orderly entry mode .runs [] [] base)
+  where
+    shut-all : {o : Marks} → Opens [] [] o → AllShut o
+    shut-all base = tt
+    shut-all (extra p) = shut-all p
 
 -- A run that is begun handles its markers well at each of its acts, refused or not: `complete`, `abandon`, `precede` and `extend_to` always
 -- find a start at their marker.
