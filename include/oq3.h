@@ -33,7 +33,7 @@ enum {
     OQ3_NO_EVENT_ROOM = 5,   /* one more event than the room holds; place: consumed */
     OQ3_TOO_DEEP = 6,        /* nested deeper than 64 counted calls (docs/COUNTED.md); place: consumed */
     OQ3_STUCK = 7,           /* the 10,001st lookup since a token was consumed; place: consumed */
-    OQ3_STOPPED = 8,         /* where oq3_parser 0.7.0 panics (docs/PANICS.md); place: consumed */
+    OQ3_STOPPED = 8,         /* where oq3_parser 0.7.0 panics (docs/PANICS.md), or a source file would leave a token; place: consumed */
     OQ3_FAULTY_LIST = 9,     /* the list is not well formed; place: the first faulty event */
     OQ3_NO_STEP_ROOM = 10,   /* the step room is too small; place: the bytes needed */
     OQ3_NO_ANSWER_ROOM = 100, /* the answer room is too short: nothing is read or written, and there is no place */
