@@ -11,6 +11,8 @@
  *   - A pointer is valid for as many elements as the length behind it says, and aligned for its type. With a length of 0 it is still
  *     not null and aligned, and is not read.
  *   - No two rooms of one call overlap, and nothing else reads or writes them while it runs.
+ *   - OQ3_STACK bytes of stack are left. The proofs know no stack; tools/stack reads the bound off the compiled code. oq3_check and
+ *     oq3_resolve take a few hundred.
  * Everything else may have any value: there is no further condition on any number, word or length.
  */
 #ifndef OQ3_H
@@ -51,7 +53,8 @@ enum {
     OQ3_MOST_TOKENS = 8192,
     OQ3_MOST_EVENTS = 65536,
     OQ3_MOST_ROOM = 131072,      /* words of the largest event room: two for each event */
-    OQ3_MOST_STEPS = 524288      /* bytes of the longest step file: eight for each event */
+    OQ3_MOST_STEPS = 524288,     /* bytes of the longest step file: eight for each event */
+    OQ3_STACK = 262144           /* bytes of stack that are enough for any call, on x86-64 */
 };
 
 /* The least number of joint words for so many tokens. */

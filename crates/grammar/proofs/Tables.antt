@@ -3,10 +3,9 @@ use mathlib.Core.Path.{_≡_, refl}
 use mathlib.Core.Logic.{_⊎_, inl, inr}
 use mathlib.Core.Bool.{Bool, true, false}
 use mathlib.Core.List.{List, [], _∷_}
-use Prim.Native.Nat.{ℕ, zero, suc, _+_, _/_, _%_, _≤_, _<_}
+use Prim.Native.Nat.{ℕ, zero, suc, _+_, _-_, _*_, _/_, _%_, _^_, _≤_, _<_}
 use native.Mathlib.Omega.{arith}
 use lib.Dec.{T, eqb, ltb, leb, eqb→eq, ltb→lt, leb→le}
-use lib.Arith.{digits-div, digits-mod}
 use lib.ListN.{getD}
 use borrow.Author.Tests.{eqb-true, eqb-false, ne-eqb}
 use Rattle.kinds.proofs.Laws.{both, both-parts}
@@ -16,36 +15,32 @@ use Rattle.grammar.specs.Operators.{Power, left, listed, packed, crateOr
 
 -- the words of mode 0 and of mode 1, as src/operators.rt has them
 abbrev pub crateWords : List ℕ
-crateWords =
-    256 ∷ 256 ∷ 770 ∷ 256 ∷ 256 ∷ 256 ∷ 256 ∷ 256 ∷ 256 ∷ 256 ∷ 256 ∷ 1541 ∷ 1541 ∷ 256 ∷ 256 ∷ 256 ∷ 256
-    ∷ 256 ∷ 2312 ∷ 1798 ∷ 2826 ∷ 3083 ∷ 3083 ∷ 2055 ∷ 3083 ∷ 256 ∷ 256 ∷ 770 ∷ 256 ∷ 770 ∷ 256 ∷ 256 ∷ 3084
-    ∷ 1541 ∷ 256 ∷ 256 ∷ 1541 ∷ 2826 ∷ 256 ∷ 1541 ∷ 1541 ∷ 257 ∷ 257 ∷ 257 ∷ 257 ∷ 257 ∷ 257 ∷ 257 ∷ 257 ∷ 1284
-    ∷ 1027 ∷ 2569 ∷ 2569 ∷ 257 ∷ 257 ∷ []
+crateWords = 262144 ∷ 43117445120 ∷ 1015023041376157696 ∷ 4398113619990 ∷ 720597973561510425 ∷ 217020518514230026 ∷ 847801076811779 ∷ []
 
 abbrev pub specificationWords : List ℕ
-specificationWords =
-    256 ∷ 256 ∷ 770 ∷ 256 ∷ 256 ∷ 256 ∷ 256 ∷ 256 ∷ 256 ∷ 256 ∷ 256 ∷ 3340 ∷ 3340 ∷ 256 ∷ 256 ∷ 256 ∷ 256
-    ∷ 256 ∷ 2826 ∷ 1798 ∷ 4368 ∷ 4882 ∷ 4882 ∷ 2312 ∷ 4882 ∷ 256 ∷ 256 ∷ 770 ∷ 256 ∷ 770 ∷ 256 ∷ 256 ∷ 5140
-    ∷ 3340 ∷ 256 ∷ 256 ∷ 3340 ∷ 4368 ∷ 256 ∷ 3340 ∷ 3340 ∷ 257 ∷ 257 ∷ 257 ∷ 257 ∷ 257 ∷ 257 ∷ 257 ∷ 257 ∷ 1284
-    ∷ 1027 ∷ 3854 ∷ 3854 ∷ 257 ∷ 257 ∷ []
+specificationWords = 262144 ∷ 103481868288 ∷ 1163094323828621312 ∷ 4398113620004 ∷ 1729417544361580585 ∷ 217020518514230040 ∷ 847844194256899 ∷ []
 
--- the words below n say what is listed
+-- the byte of a kind: eight to a word
+abbrev pub byte : List ℕ → ℕ → ℕ
+byte ws k = getD ws (k / 8) 0 / 2 ^ (8 * (k % 8)) % 256
+
+-- the bytes below n say what is listed
 unfoldable pub agree : ℕ → List ℕ → List (ℕ × Power) → Bool
 agree zero ws rs = true
-agree (suc n) ws rs = both (eqb (getD ws n 0) (packed (listed rs n))) (agree n ws rs)
+agree (suc n) ws rs = both (eqb (byte ws n) (packed (listed rs n))) (agree n ws rs)
 
 -- every listed kind is below n
 unfoldable pub below : ℕ → List (ℕ × Power) → Bool
 below n [] = true
 below n (r ∷ rs) = both (ltb (r .0) n) (below n rs)
 
-pub in-words : (n : ℕ) (ws : List ℕ) (rs : List (ℕ × Power)) → T (agree n ws rs) → (k : ℕ) → k < n → getD ws k 0 ≡ packed (listed rs k)
+pub in-words : (n : ℕ) (ws : List ℕ) (rs : List (ℕ × Power)) → T (agree n ws rs) → (k : ℕ) → k < n → byte ws k ≡ packed (listed rs k)
 unfolding agree
 in-words zero ws rs t k h = absurd (omega arith)
-in-words (suc n) ws rs t k h = by (eqb k n) refl (in-words n ws rs (both-parts (eqb (getD ws n 0) (packed (listed rs n))) (agree n ws rs) t .1) k)
+in-words (suc n) ws rs t k h = by (eqb k n) refl (in-words n ws rs (both-parts (eqb (byte ws n) (packed (listed rs n))) (agree n ws rs) t .1) k)
   where
-    by : (b : Bool) → eqb k n ≡ b → (k < n → getD ws k 0 ≡ packed (listed rs k)) → getD ws k 0 ≡ packed (listed rs k)
-    by true e before = rw (eqb-true k n e) (eqb→eq _ _ (both-parts (eqb (getD ws n 0) (packed (listed rs n))) (agree n ws rs) t .0))
+    by : (b : Bool) → eqb k n ≡ b → (k < n → byte ws k ≡ packed (listed rs k)) → byte ws k ≡ packed (listed rs k)
+    by true e before = rw (eqb-true k n e) (eqb→eq _ _ (both-parts (eqb (byte ws n) (packed (listed rs n))) (agree n ws rs) t .0))
     by false e before = before (omega (arith, eqb-false k n e))
 
 pub past-words : (n : ℕ) (rs : List (ℕ × Power)) → T (below n rs) → (k : ℕ) → n ≤ k → listed rs k ≡ left 0
@@ -67,10 +62,10 @@ mode-other zero h = absurd (h refl)
 mode-other (suc m) h = refl
 
 -- a kind past the words has no power in either mode
-pub no-power : (mode k : ℕ) → 55 ≤ k → tableOf mode k ≡ left 0
+pub no-power : (mode k : ℕ) → 56 ≤ k → tableOf mode k ≡ left 0
 unfolding tableOf below
-no-power zero k h = past-words 55 crateOrder tt k h
-no-power (suc m) k h = past-words 55 specificationOrder tt k h
+no-power zero k h = past-words 56 crateOrder tt k h
+no-power (suc m) k h = past-words 56 specificationOrder tt k h
 
 -- What holds of each listed row holds of every operator of the table of every mode; what is not listed is no operator.
 unfoldable pub every : (ℕ → Power → Bool) → List (ℕ × Power) → Bool
@@ -121,21 +116,24 @@ operators mode k = by (in-table sound tt tt mode k)
         let b = both-parts (leb (q .power) 254) (eqb (q .next) (q .power + side k)) (a .1) in
         inr (record { least = leb→le _ _ (a .0); most = leb→le _ _ (b .0); right-side = eqb→eq _ _ (b .1) })
 
--- so no power lies above 254, and no right side is read below its operator's power
-pub all-fair : (mode k : ℕ) → (tableOf mode k .power ≤ 254) × (tableOf mode k .power ≤ tableOf mode k .next) × (tableOf mode k .next ≤ 255)
+-- so no power lies above 254, and a right side is read at its operator's power or one higher
+pub all-fair : (mode k : ℕ) → (tableOf mode k .power ≤ 254) × (tableOf mode k .power ≤ tableOf mode k .next) × (tableOf mode k .next ≤ tableOf mode k .power + 1)
 all-fair mode k = by (operators mode k)
   where
     one : (b : Bool) → pick b 0 1 ≤ 1
     one true = omega arith
     one false = omega arith
 
-    by : (tableOf mode k ≡ left 0) ⊎ Sound k (tableOf mode k) → (tableOf mode k .power ≤ 254) × (tableOf mode k .power ≤ tableOf mode k .next) × (tableOf mode k .next ≤ 255)
+    by : (tableOf mode k ≡ left 0) ⊎ Sound k (tableOf mode k) → (tableOf mode k .power ≤ 254) × (tableOf mode k .power ≤ tableOf mode k .next) × (tableOf mode k .next ≤ tableOf mode k .power + 1)
     by (inl e) = rw e (omega arith, omega arith, omega arith)
-    by (inr h) = (h .most, omega (arith, h .right-side), omega (arith, h .right-side, h .most, one (oneOf assignments k)))
+    by (inr h) = (h .most, omega (arith, h .right-side), omega (arith, h .right-side, one (oneOf assignments k)))
 
--- a word's two parts
-pub packed-power : (mode k : ℕ) → packed (tableOf mode k) % 256 ≡ tableOf mode k .power
-packed-power mode k = let h = all-fair mode k in digits-mod (tableOf mode k .next) (omega arith)
+-- a byte's two parts
+pub packed-power : (mode k : ℕ) → packed (tableOf mode k) / 2 ≡ tableOf mode k .power
+packed-power mode k = let h = all-fair mode k in omega arith
 
-pub packed-next : (mode k : ℕ) → packed (tableOf mode k) / 256 ≡ tableOf mode k .next
-packed-next mode k = let h = all-fair mode k in digits-div (tableOf mode k .next) (omega arith)
+pub packed-next : (mode k : ℕ) → tableOf mode k .power + 1 - packed (tableOf mode k) % 2 ≡ tableOf mode k .next
+packed-next mode k = let h = all-fair mode k in omega arith
+
+pub packed-small : (mode k : ℕ) {b : ℕ} → b ≡ packed (tableOf mode k) → b / 2 ≤ 254
+packed-small mode k e = omega (arith, packed-power mode k, all-fair mode k .0)

@@ -1,7 +1,7 @@
 -- The operators: fn current_op of src/grammar/expressions.rs, line 167, and the powers of both modes (docs/RULES.md, section 8).
 -- Assumes nothing: these are definitions.
 use mathlib.Core.List.{List, [], _∷_}
-use Prim.Native.Nat.{ℕ, zero, suc, _+_, _*_}
+use Prim.Native.Nat.{ℕ, zero, suc, _+_, _-_, _*_}
 use lib.Dec.{eqb}
 use Rattle.kinds.specs.Membership.{pick}
 use Rattle.kinds.specs.Kinds.{PIPE, PIPE2, PIPEEQ, R-ANGLE, SHREQ, SHR, GTEQ, EQ, FAT-ARROW, EQ2, L-ANGLE, LTEQ, SHLEQ, SHL, PLUS, PLUSEQ, DOUBLE-PLUS, CARET, CARETEQ, PERCENT, PERCENTEQ, AMP, AMPEQ, AMP2, SLASH, SLASHEQ, STAR, STAREQ, DOT, DOT2EQ, DOT2, DOT3, BANG, NEQ, MINUS, MINUSEQ}
@@ -103,9 +103,9 @@ unfoldable pub tableOf : ℕ → Table
 tableOf zero = listed crateOrder
 tableOf (suc n) = listed specificationOrder
 
--- a power in one number, as the code has it
+-- a power in one number, as the code has it: one more than its double where it is right
 abbrev pub packed : Power → ℕ
-packed q = q .next * 256 + q .power
+packed q = 2 * q .power + (q .power + 1 - q .next)
 
 -- fn current_op, line 167: one lookup, and what stands there under a table
 unfoldable pub currentOp : Table → Acts Op

@@ -10,122 +10,26 @@ ghost use Rattle.runtime.specs.State.{Fit};
 ghost use Rattle.runtime.specs.Acts.{Peeks};
 ghost use Rattle.grammar.specs.Operators as acts;
 
-// The powers of mode 0, by kind: 256 times the least power of the right side, and the power. A kind past the last is no operator.
-const CRATE_ORDER: [u16; 55] = [
-    256,
-    256,
-    770,
-    256,
-    256,
-    256,
-    256,
-    256,
-    256,
-    256,
-    256,
-    1541,
-    1541,
-    256,
-    256,
-    256,
-    256,
-    256,
-    2312,
-    1798,
-    2826,
-    3083,
-    3083,
-    2055,
-    3083,
-    256,
-    256,
-    770,
-    256,
-    770,
-    256,
-    256,
-    3084,
-    1541,
-    256,
-    256,
-    1541,
-    2826,
-    256,
-    1541,
-    1541,
-    257,
-    257,
-    257,
-    257,
-    257,
-    257,
-    257,
-    257,
-    1284,
-    1027,
-    2569,
-    2569,
-    257,
-    257,
+// The powers of mode 0, a byte for each kind, eight to a word: twice the power, and one more where the operator is right.
+const CRATE_ORDER: [u64; 7] = [
+    0x0000000000040000,
+    0x0000000a0a000000,
+    0x0e1616140c100000,
+    0x0000040004000016,
+    0x0a00140a00000a19,
+    0x030303030303030a,
+    0x0003031212060803,
 ];
 
 // The powers of mode 1.
-const SPECIFICATION_ORDER: [u16; 55] = [
-    256,
-    256,
-    770,
-    256,
-    256,
-    256,
-    256,
-    256,
-    256,
-    256,
-    256,
-    3340,
-    3340,
-    256,
-    256,
-    256,
-    256,
-    256,
-    2826,
-    1798,
-    4368,
-    4882,
-    4882,
-    2312,
-    4882,
-    256,
-    256,
-    770,
-    256,
-    770,
-    256,
-    256,
-    5140,
-    3340,
-    256,
-    256,
-    3340,
-    4368,
-    256,
-    3340,
-    3340,
-    257,
-    257,
-    257,
-    257,
-    257,
-    257,
-    257,
-    257,
-    1284,
-    1027,
-    3854,
-    3854,
-    257,
-    257,
+const SPECIFICATION_ORDER: [u64; 7] = [
+    0x0000000000040000,
+    0x0000001818000000,
+    0x102424200c140000,
+    0x0000040004000024,
+    0x1800201800001829,
+    0x0303030303030318,
+    0x0003031c1c060803,
 ];
 
 fn first_of_one(kinds: &[u16], joints: &[u64], p: Parser, a: u16, plain: u16) -> u16
@@ -198,18 +102,19 @@ fn operator_at(kinds: &[u16], joints: &[u64], p: Parser, kind: u16) -> u16
     }
 }
 
-// The power of a kind in a mode, and the least power of its right side.
-fn power_of(mode: u8, kind: u16) -> u16
+// The byte of a kind in a mode.
+fn power_of(mode: u8, kind: u16) -> u64
     ensures { λ r. ⌜ r ≡ acts.packed (acts.tableOf mode kind) ⌝ }
 {
-    let i = kind as usize;
-    if i < 55 {
+    let i = (kind / 8) as usize;
+    let n = 8 * (kind % 8);
+    if i < 7 {
         if mode == 0 {
-            return CRATE_ORDER[i];
+            return (CRATE_ORDER[i] >> n) % 256;
         }
-        return SPECIFICATION_ORDER[i];
+        return (SPECIFICATION_ORDER[i] >> n) % 256;
     }
-    256
+    0
 }
 
 // What stands here under the table of a mode: one lookup.
@@ -220,11 +125,11 @@ pub fn current_op(kinds: &[u16], joints: &[u64], p: Parser, mode: u8) -> OpAt
     let l = p.current(kinds, joints);
     let p1 = l.p;
     let kind = operator_at(kinds, joints, p1, l.kind);
-    let power = power_of(mode, kind);
+    let byte = power_of(mode, kind);
     let op = Op {
-        power: (power % 256) as u8,
+        power: (byte / 2) as u8,
         kind,
-        next: (power / 256) as u8,
+        next: (byte / 2 + 1 - byte % 2) as u8,
     };
     OpAt { p: p1, op }
 }

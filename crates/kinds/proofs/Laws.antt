@@ -21,6 +21,11 @@ pub no-bit : (ws : List ℕ) (i : ℕ) → length ws ≤ i / 64 → bit ws i ≡
 unfolding bit
 no-bit ws i h = rw (List·getD-eq-default ws 0 h, zero-div (2 ^ (i % 64)))
 
+-- the bit of a kind stands in its word
+pub bit-in : (ws : List ℕ) (i k : ℕ) {b : Bool} → k / 64 ≡ i → b ≡ eqb (getD ws i 0 / 2 ^ (k % 64) % 2) 1 → b ≡ bit ws k
+unfolding bit
+bit-in ws i k h e = rw h e
+
 -- ---- the computed test: words of 64 bits hold exactly the kinds that are listed
 
 abbrev pub both : Bool → Bool → Bool
@@ -40,23 +45,23 @@ same-eq true false t = absurd t
 same-eq false true t = absurd t
 same-eq false false t = refl
 
--- every kind below n is in both or in neither
-unfoldable pub agree : ℕ → List ℕ → List ℕ → Bool
-agree zero ws ks = true
-agree (suc n) ws ks = both (same (bit ws n) (oneOf ks n)) (agree n ws ks)
+-- every kind below n has its bit where a test holds, and nowhere else
+unfoldable pub agree : ℕ → List ℕ → (ℕ → Bool) → Bool
+agree zero ws f = true
+agree (suc n) ws f = both (same (bit ws n) (f n)) (agree n ws f)
 
 -- every listed kind is below n
 unfoldable pub below : ℕ → List ℕ → Bool
 below n [] = true
 below n (k ∷ ks) = both (ltb k n) (below n ks)
 
-agreed : (n : ℕ) (ws ks : List ℕ) → T (agree n ws ks) → (k : ℕ) → k < n → bit ws k ≡ oneOf ks k
+pub agreed : (n : ℕ) (ws : List ℕ) (f : ℕ → Bool) → T (agree n ws f) → (k : ℕ) → k < n → bit ws k ≡ f k
 unfolding agree
-agreed zero ws ks t k h = absurd (omega arith)
-agreed (suc n) ws ks t k h = by (eqb k n) refl (agreed n ws ks (both-parts (same (bit ws n) (oneOf ks n)) (agree n ws ks) t .1) k)
+agreed zero ws f t k h = absurd (omega arith)
+agreed (suc n) ws f t k h = by (eqb k n) refl (agreed n ws f (both-parts (same (bit ws n) (f n)) (agree n ws f) t .1) k)
   where
-    by : (b : Bool) → eqb k n ≡ b → (k < n → bit ws k ≡ oneOf ks k) → bit ws k ≡ oneOf ks k
-    by true e before = rw (eqb-true k n e) (same-eq _ _ (both-parts (same (bit ws n) (oneOf ks n)) (agree n ws ks) t .0))
+    by : (b : Bool) → eqb k n ≡ b → (k < n → bit ws k ≡ f k) → bit ws k ≡ f k
+    by true e before = rw (eqb-true k n e) (same-eq _ _ (both-parts (same (bit ws n) (f n)) (agree n ws f) t .0))
     by false e before = before (omega (arith, eqb-false k n e))
 
 unlisted : (n : ℕ) (ks : List ℕ) → T (below n ks) → (k : ℕ) → n ≤ k → oneOf ks k ≡ false
@@ -67,14 +72,14 @@ unlisted n (x ∷ ks) t k h =
     rw (ne-eqb k x (λ e. omega (arith, ltb→lt x n (parts .0)))) (unlisted n ks (parts .1) k h)
 
 -- words that agree with a listing below their last bit hold exactly the listed kinds
-pub exactly : (ws ks : List ℕ) → T (both (below (64 * length ws) ks) (agree (64 * length ws) ws ks)) → bit ws ≡ oneOf ks
+pub exactly : (ws ks : List ℕ) → T (both (below (64 * length ws) ks) (agree (64 * length ws) ws (oneOf ks))) → bit ws ≡ oneOf ks
 exactly ws ks t = everywhere (λ k. by k (ltb k (64 * length ws)) refl)
   where
-    parts : T (below (64 * length ws) ks) × T (agree (64 * length ws) ws ks)
-    parts = both-parts (below (64 * length ws) ks) (agree (64 * length ws) ws ks) t
+    parts : T (below (64 * length ws) ks) × T (agree (64 * length ws) ws (oneOf ks))
+    parts = both-parts (below (64 * length ws) ks) (agree (64 * length ws) ws (oneOf ks)) t
 
     by : (k : ℕ) (b : Bool) → ltb k (64 * length ws) ≡ b → bit ws k ≡ oneOf ks k
-    by k true e = agreed _ ws ks (parts .1) k (ltb-true _ _ e)
+    by k true e = agreed _ ws (oneOf ks) (parts .1) k (ltb-true _ _ e)
     by k false e =
         no-bit ws k (omega (arith, ltb-false k (64 * length ws) e))
         ∙ sym (unlisted _ ks (parts .0) k (ltb-false _ _ e))

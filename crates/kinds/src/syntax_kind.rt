@@ -1,6 +1,7 @@
 // What the crate tells of a kind by a test: the tests of src/syntax_kind/syntax_kind_enum.rs and of src/grammar.rs that the
 // grammar calls, and whether a kind may stand in a token list.
 use crate::sets::Fixed;
+use crate::sets::set_of;
 ghost use mathlib.Core.Path.{_≡_};
 ghost use Rattle.kinds.specs.Membership.{oneOf};
 ghost use Rattle.kinds.specs.Sets.{SCALAR-TYPES, CLASSICAL-TYPES, QUANTUM-TYPES, TYPES, PERMITTED};
@@ -29,9 +30,10 @@ pub fn is_type(kind: u16) -> bool
     Fixed::Types.has(kind)
 }
 
-// Whether lexing can push the kind into an Input: refusal 4 is given for any other.
+// Whether lexing can push the kind into an Input: refusal 4 is given for any other. It is asked of token after token, so its word is read
+// by index: a comparison would be foreseen wrong too often (docs/SPEED.md).
 pub fn permitted(kind: u16) -> bool
     ensures { λ r. ⌜ r ≡ oneOf PERMITTED kind ⌝ }
 {
-    Fixed::Permitted.has(kind)
+    set_of(Fixed::Permitted).contains_by_index(kind)
 }

@@ -1,5 +1,7 @@
 // Sets of kinds: src/token_set.rs, and the fixed sets that the grammar's files have as constants.
 ghost use mathlib.Core.Path.{_≡_};
+ghost use Prim.Native.Nat.{_/_, _%_, _^_};
+ghost use lib.Dec.{eqb};
 ghost use Rattle.kinds.specs.Membership.{held, either};
 
 // A set of kinds, a bit for each: kind k is bit k % 64 of word k / 64. A kind beyond the words is in no set.
@@ -19,15 +21,42 @@ impl TokenSet {
         }
     }
 
-    // Whether the set has the kind.
+    // Whether the set has the kind. A fixed set's words are constants, and comparing leaves only those that are not 0.
     pub fn contains(self, kind: u16) -> bool
+        ensures { λ r. ⌜ r ≡ held self kind ⌝ }
+    {
+        let words = self.words;
+        if kind < 64 {
+            return has_bit(words[0], kind);
+        }
+        if kind < 128 {
+            return has_bit(words[1], kind);
+        }
+        if kind < 192 {
+            return has_bit(words[2], kind);
+        }
+        if kind < 256 {
+            return has_bit(words[3], kind);
+        }
+        false
+    }
+
+    // `contains`, with the word read by index.
+    pub fn contains_by_index(self, kind: u16) -> bool
         ensures { λ r. ⌜ r ≡ held self kind ⌝ }
     {
         let i = (kind / 64) as usize;
         let words = self.words;
         if i < 4 {
-            return (words[i] >> (kind % 64)) % 2 == 1;
+            return has_bit(words[i], kind);
         }
         false
     }
+}
+
+// Whether a word has the bit of a kind.
+fn has_bit(word: u64, kind: u16) -> bool
+    ensures { λ r. ⌜ r ≡ eqb (word / 2 ^ (kind % 64) % 2) 1 ⌝ }
+{
+    (word >> (kind % 64)) % 2 == 1
 }

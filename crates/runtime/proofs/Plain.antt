@@ -1,51 +1,67 @@
--- Kinds that are plainly one token: the glued ones lie elsewhere. Assumes nothing.
-use mathlib.Core.Path.{_≡_, refl, sym, ap, _∙_}
+-- Kinds that are one token: the bits of the code's constant against the glued kinds, by one test that antt computes. Assumes nothing.
+use mathlib.Core.Path.{_≡_, refl, sym, _∙_}
 use mathlib.Core.List.{List, [], _∷_}
 use mathlib.Core.Bool.{Bool, true, false}
-use Prim.Native.Nat.{ℕ, _+_, _≤_, _<_}
+use Prim.Native.Nat.{ℕ, _+_, _/_, _%_, _^_, _≤_, _<_}
 use native.Mathlib.Omega.{arith}
-use lib.Dec.{T, eqb, leb, ltb}
-use borrow.Author.Tests.{eqb-true, le-leb, lt-ltb, le-ltb}
-use Rattle.kinds.specs.Membership.{pick}
-use Rattle.kinds.proofs.Laws.{both, both-parts}
+use lib.Dec.{T, eqb, ltb, ltb→lt}
+use borrow.Author.Tests.{ne-eqb}
+use Rattle.kinds.specs.Membership.{pick, bit}
+use Rattle.kinds.proofs.Laws.{both, both-parts, agree, agreed, bit-in}
 use Rattle.runtime.specs.declared.input.Parts.{Parts}
 use Rattle.runtime.specs.declared.input.Parts.the-variants.{One}
 use Rattle.runtime.specs.Input.{Env, seen}
-use Rattle.runtime.specs.Glue.{gluedKinds, partsIn, partsOf, rawCount, standsAt}
+use Rattle.runtime.specs.Glue.{gluedKinds, partsIn, partsOf, isOne, standsAt}
+use Rattle.runtime.proofs.Kept.{apart}
 
--- where the glued kinds lie
-abbrev among : ℕ → Bool
-among k = pick (ltb k 3) true (pick (ltb k 27) false (ltb k 55))
+-- the code's constant
+abbrev pub plainBits : ℕ
+plainBits = 18410715453992206331
 
-allAmong : List (ℕ × Parts) → Bool
-allAmong [] = true
-allAmong (g ∷ gs) = both (among (g .0)) (allAmong gs)
+-- below 64 its bits say which kinds are one token
+pub bits-plain : (k : ℕ) {b : Bool} → k ≤ 63 → b ≡ eqb (plainBits / 2 ^ k % 2) 1 → b ≡ isOne (partsOf k)
+unfolding agree partsOf bit
+bits-plain k h e =
+    let m : k % 64 ≡ k = omega arith in
+    bit-in (plainBits ∷ []) 0 k (omega arith) (rw m e) ∙ agreed 64 (plainBits ∷ []) (λ k. isOne (partsOf k)) tt k (omega arith)
 
-true-of : (b : Bool) → T b → b ≡ true
-true-of true t = refl
-true-of false t = absurd t
+-- no glued kind lies above
+unfoldable below : ℕ → List (ℕ × Parts) → Bool
+below n [] = true
+below n (g ∷ gs) = both (ltb (g .0) n) (below n gs)
 
-alone : (k : ℕ) (gs : List (ℕ × Parts)) → T (allAmong gs) → among k ≡ false → partsIn k gs ≡ One k
-unfolding allAmong
-alone k [] t h = refl
-alone k (g ∷ gs) t h = by (eqb k (g .0)) refl (alone k gs (both-parts (among (g .0)) (allAmong gs) t .1) h)
+alone : (n k : ℕ) (gs : List (ℕ × Parts)) → T (below n gs) → n ≤ k → partsIn k gs ≡ One k
+unfolding below
+alone n k [] t h = refl
+alone n k (g ∷ gs) t h =
+    let parts : T (ltb (g .0) n) × T (below n gs) = both-parts (ltb (g .0) n) (below n gs) t in
+    rw (ne-eqb k (g .0) (λ e. omega (arith, ltb→lt (g .0) n (parts .0)))) (alone n k gs (parts .1) h)
+
+pub above-plain : (k : ℕ) → 63 < k → true ≡ isOne (partsOf k)
+unfolding partsOf below
+above-plain k h = rw (alone 64 k gluedKinds tt (omega arith))
+
+-- a kind of one token is its own part: no glued kind has one
+unfoldable noneOne : List (ℕ × Parts) → Bool
+noneOne [] = true
+noneOne (g ∷ gs) = both (pick (isOne (g .1)) false true) (noneOne gs)
+
+own : (k : ℕ) (gs : List (ℕ × Parts)) → T (noneOne gs) → isOne (partsIn k gs) ≡ true → partsIn k gs ≡ One k
+unfolding noneOne
+own k [] t h = refl
+own k (g ∷ gs) t h =
+    by (eqb k (g .0)) (isOne (g .1)) refl (both-parts (pick (isOne (g .1)) false true) (noneOne gs) t .0) (own k gs (both-parts (pick (isOne (g .1)) false true) (noneOne gs) t .1)) h
   where
-    by : (b : Bool) → eqb k (g .0) ≡ b → partsIn k gs ≡ One k → pick b (g .1) (partsIn k gs) ≡ One k
-    by true q r = absurd (let z : _≡_ {A = ℕ} 0 1 = clash in omega arith)
-      where
-        clash : _≡_ {A = ℕ} 0 1
-        clash = ap (λ (x : Bool). pick x 1 0) (sym h ∙ ap among (eqb-true k (g .0) q) ∙ true-of (among (g .0)) (both-parts (among (g .0)) (allAmong gs) t .0))
-    by false q r = r
+    by : (b o : Bool) → isOne (g .1) ≡ o → T (pick o false true) → (isOne (partsIn k gs) ≡ true → partsIn k gs ≡ One k) → isOne (pick b (g .1) (partsIn k gs)) ≡ true → pick b (g .1) (partsIn k gs) ≡ One k
+    by true true q t r z = absurd t
+    by true false q t r z = apart (sym q ∙ z)
+    by false o q t r z = r z
 
-pub above-plain : (k : ℕ) → 54 < k → partsOf k ≡ One k
-unfolding partsOf allAmong
-above-plain k h = alone k gluedKinds tt (rw (le-ltb k 3 (omega arith), le-ltb k 27 (omega arith), le-ltb k 55 (omega arith)))
-
-pub between-plain : (k : ℕ) → 3 ≤ k → k < 27 → partsOf k ≡ One k
-unfolding partsOf allAmong
-between-plain k h l = alone k gluedKinds tt (rw (le-ltb k 3 h, lt-ltb k 27 l))
+pub plain-one : (k : ℕ) → isOne (partsOf k) ≡ true → partsOf k ≡ One k
+unfolding partsOf noneOne
+plain-one k h = own k gluedKinds tt h
 
 -- what stands where such a kind is asked for
-pub plain-stands : (e : Env) (r i k : ℕ) → partsOf k ≡ One k → standsAt e r (i + 0) (partsOf k) ≡ eqb (seen (e .kinds) r i) k
+pub plain-stands : (e : Env) (r i k : ℕ) → isOne (partsOf k) ≡ true → standsAt e r i (partsOf k) ≡ eqb (seen (e .kinds) r i) k
 unfolding standsAt
-plain-stands e r i k q = let z : i + 0 ≡ i = omega arith in rw (q, z)
+plain-stands e r i k q = rw (plain-one k q)

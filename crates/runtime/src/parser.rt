@@ -14,15 +14,16 @@ ghost use Rattle.runtime.specs.Acts as acts;
 ghost use Rattle.runtime.specs.Acts.{Does, Steps, Peeks, nthSees, sees, goes, stopped};
 
 // At most so many lookups are made since the last token.
-const MOST_LOOKS: u32 = 10000;
+const MOST_LOOKS: usize = 10000;
 
-// The state: tokens consumed, lookups since the last token and in all, events written, and the refusal's number, 0 for none.
-// It is passed by value, and each operation hands it back. A refused one is handed back as it is.
+// The state: tokens consumed, lookups since the last token, events written, lookups in all, and the refusal's number, 0 for none.
+// It is passed by value, and each operation hands it back. A refused one is handed back as it is. The fields leave no gap between
+// them, which would be copied with them (docs/SPEED.md).
 pub struct Parser {
     pub pos: usize,
-    pub since: u32,
-    pub looks: u32,
+    pub since: usize,
     pub len: usize,
+    pub looks: u32,
     pub refused: u32,
 }
 
@@ -167,10 +168,14 @@ impl Parser {
         requires { ⌜ n ≤ 3 ⌝ }
         ensures { λ r. ⌜ r ≡ nthSees (env (now (kinds .entry)) (now (joints .entry))) self n kind ⌝ }
     {
+        if input::is_plain(kind) {
+            return input::kind(kinds, self.refused, self.pos + n) == kind;
+        }
         let parts = input::parts_of(kind);
         input::stands_at(kinds, joints, self.refused, self.pos + n, parts)
     }
 
+    // `nth_at` of 0. A kind of one token is tested here, so that the test is compiled into each caller.
     pub fn at(self, kinds: &[u16], joints: &[u64], kind: u16) -> bool
         requires { ⌜ Fit self ⌝ }
         ensures { λ r. ⌜ r ≡ sees (env (now (kinds .entry)) (now (joints .entry))) self kind ⌝ }
@@ -476,12 +481,13 @@ impl Parser {
         self.err_recover(kinds, joints, room, code, Fixed::Empty)
     }
 
-    // An assertion of the grammar: refused with 8 where another kind stands here.
+    // An assertion of the grammar: refused with 8 where another kind stands here. It asks `nth_at`, whose second caller keeps it apart
+    // from `at`.
     pub fn must(self, kinds: &[u16], joints: &[u64], room: &mut [u32], kind: u16) -> Parser
         requires { ⌜ Fit self ⌝ }
         ensures { λ r. ⌜ Does (env (now (kinds .entry)) (now (joints .entry))) (acts.must kind) (view self (now (room .entry))) tt (view r (now (room .exit))) ⌝ }
     {
-        if self.at(kinds, joints, kind) {
+        if self.nth_at(kinds, joints, 0, kind) {
             return self;
         }
         self.stop(room, Stop::Panic)

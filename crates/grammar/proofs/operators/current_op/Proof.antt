@@ -1,8 +1,8 @@
 -- `operators::current_op` meets its contract. Assumes nothing.
 use Rattle.runtime.proofs.Laws.{peek, only, ends}
-use mathlib.Core.Path.{sym}
+use native.Mathlib.Omega.{arith}
 use Rattle.grammar.specs.Operators as S
-use Rattle.grammar.proofs.Tables.{packed-power, packed-next}
+use Rattle.grammar.proofs.Tables.{packed-small, packed-power, packed-next}
 use borrow.Author.Needs.{needs}
 use Rattle.grammar.proofs.operators.current_op.Statement.{statement}
 use Rattle.grammar.proofs.operators.current_op.Tie as tie
@@ -17,10 +17,16 @@ power-of-requires : tie.Need-power-of-requires
 power-of-requires c κs = search needs
 
 cast-t11 : tie.Need-cast-t11
-cast-t11 c = search needs
+cast-t11 c = omega (arith, packed-small _ _ (c .power-of .ensures))
 
-cast-t13 : tie.Need-cast-t13
-cast-t13 c = search needs
+add-t13 : tie.Need-add-t13
+add-t13 c = search needs
+
+sub-t15 : tie.Need-sub-t15
+sub-t15 c = search needs
+
+cast-t16 : tie.Need-cast-t16
+cast-t16 c = omega (arith, packed-small _ _ (c .power-of .ensures))
 
 returns : tie.Need-returns
 unfolding S.currentOp
@@ -29,4 +35,4 @@ returns c = only _ _ _ (λ room. peek _ _ _ _ _ (c .before .before .before .curr
 pub current-op-spec : {M : Type 1} → statement M
 current-op-spec =
     tie.close
-    (tie.spec current-requires operator-at-requires power-of-requires cast-t11 cast-t13 returns)
+    (tie.spec current-requires operator-at-requires power-of-requires cast-t11 add-t13 sub-t15 cast-t16 returns)

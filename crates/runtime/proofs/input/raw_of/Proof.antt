@@ -2,6 +2,7 @@
 use mathlib.Core.Path.{sym, ap, _∙_}
 use borrow.Author.Needs.{needs}
 use Rattle.runtime.specs.Glue.{rawCount}
+use Rattle.runtime.proofs.Plain.{plain-one}
 use Rattle.runtime.proofs.input.raw_of.Statement.{statement}
 use Rattle.runtime.proofs.input.raw_of.Tie as tie
 
@@ -9,7 +10,7 @@ is-plain-requires : tie.Need-is-plain-requires
 is-plain-requires c κs = search needs
 
 returns : tie.Need-returns
-returns c = sym (ap rawCount (c .before .is-plain .ensures (c .if1 .taken)))
+returns c = sym (ap rawCount (plain-one _ (sym (c .before .is-plain .ensures) ∙ c .if1 .taken)))
 
 parts-of-requires : tie.Need-parts-of-requires
 parts-of-requires c κs = search needs

@@ -1,5 +1,7 @@
 -- `parser::Parser::at` meets its contract: a kind that is plainly one token is looked at by itself. Assumes nothing.
-use mathlib.Core.Path.{sym}
+use Prim.Native.Nat.{_+_}
+use mathlib.Core.Path.{_≡_, sym, _∙_}
+use native.Mathlib.Omega.{arith}
 use borrow.Author.Needs.{needs}
 use Rattle.runtime.specs.Input.{env}
 use Rattle.runtime.proofs.Plain.{plain-stands}
@@ -15,7 +17,8 @@ kind-requires c κs = search needs
 returns : tie.Need-returns
 returns c =
     let a = c .before .before .before .before .before .args in
-    rw (c .kind .ensures) (sym (plain-stands (env (a .kinds .now) (a .joints .now)) (a .self .refused) (a .self .pos) (a .kind) (c .before .before .is-plain .ensures (c .before .if1 .taken))))
+    let z : a .self .pos + 0 ≡ a .self .pos = omega arith in
+    rw (c .kind .ensures, z) (sym (plain-stands (env (a .kinds .now) (a .joints .now)) (a .self .refused) (a .self .pos) (a .kind) (sym (c .before .before .is-plain .ensures) ∙ c .before .if1 .taken)))
 
 nth-at-requires : tie.Need-nth-at-requires
 nth-at-requires c κs = search needs

@@ -13,11 +13,11 @@ add-kind c = search needs
 kind-requires : tie.Need-kind-requires
 kind-requires c κs = search needs
 
+add-t9 : tie.Need-add-t9
+add-t9 c = search needs
+
 add-t10 : tie.Need-add-t10
 add-t10 c = search needs
-
-add-t11 : tie.Need-add-t11
-add-t11 c = search needs
 
 returns-2 : tie.Need-returns-2
 returns-2 c = look-done _ _ _ (c .before .before .before .before .before .before .before .before .before .before .pre .0) (c .before .before .before .before .before .before .if1 .left) (c .before .before .before .before .if2 .taken) (c .before .before .kind .ensures)
@@ -31,4 +31,4 @@ returns-3 c = rw (c .refuse .ensures) (look-full _ _ _ (c .before .before .befor
 pub nth-spec : {M : Type 1} → statement M
 nth-spec =
     tie.close
-    (tie.spec returns add-kind kind-requires add-t10 add-t11 returns-2 refuse-requires returns-3)
+    (tie.spec returns add-kind kind-requires add-t9 add-t10 returns-2 refuse-requires returns-3)
