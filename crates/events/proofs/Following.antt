@@ -3,14 +3,14 @@
 use Prim.Native.Nat.{ℕ, zero, suc, _+_, _*_, _≤_, _<_}
 use native.Mathlib.Omega.{arith}
 use mathlib.Core.Path.{_≡_, refl, sym, ap, _∙_}
-use mathlib.Core.Bool.{false, true≢false}
+use mathlib.Core.Bool.{true, false, true≢false}
 use mathlib.Core.List.{List, [], _∷_, _++_, append-assoc}
 use lib.ListN.{length, getD, take, drop, set, length-set, length-append, length-drop, take-append-drop}
 use lib.Seq.{getD-drop, drop-drop, take-add, drop-set-lt, take-suc-set}
 use Rattle.events.specs.declared.event.Event.{Event}
 use Rattle.events.specs.declared.event.Event.the-variants.{Start, Finish, Token, Error, NoEvent}
 use Rattle.events.specs.declared.output.Step.{Step}
-use Rattle.events.specs.Event.{tombstone, distance}
+use Rattle.events.specs.Event.{tombstone, isStart, distance}
 use Rattle.events.specs.Output.{bytes, over, Wrote}
 use Rattle.events.specs.Process.{placed, Followed, follow, enters, entered, chain, stepsOf, file}
 use Rattle.events.specs.Shape.{own, cost}
@@ -37,6 +37,7 @@ pub record Hop (p : ℕ) (es : List Event) (d : ℕ) (f r : Followed) : Type 0 w
   pub here : file (entered (f .parents)) ≡ file (entered (r .parents)) ++ bytes (own (getD es d NoEvent))
   pub left : f .left ≡ take d es ++ tombstone ∷ r .left
   pub sound : r .panics ≡ false
+  pub start : isStart (getD es d NoEvent) ≡ true
 
 pub hop : (p : ℕ) (es : List Event) (d : ℕ) → follow p es (suc d) .panics ≡ false
     → Hop p es d (follow p es (suc d)) (follow (suc p + d) (drop (suc d) es) (distance (getD es d NoEvent)))
@@ -44,7 +45,7 @@ unfolding follow
 hop p [] d s = absurd (true≢false s)
 hop p (Start k f ∷ es) zero s =
     let z : suc p + 0 ≡ suc p = omega arith in
-    rw z (record { inside = omega arith; here = entered-file p k (follow (suc p) es f); left = refl; sound = s })
+    rw z (record { inside = omega arith; here = entered-file p k (follow (suc p) es f); left = refl; sound = s; start = refl })
 hop p (Finish ∷ es) zero s = absurd (true≢false s)
 hop p (Token k n ∷ es) zero s = absurd (true≢false s)
 hop p (Error c x ∷ es) zero s = absurd (true≢false s)
@@ -52,7 +53,7 @@ hop p (NoEvent ∷ es) zero s = absurd (true≢false s)
 hop p (e ∷ es) (suc d) s =
     let h = hop (suc p) es d s in
     let z : suc p + suc d ≡ suc (suc p) + d = omega arith in
-    rw z (record { inside = omega (arith, h .inside); here = h .here; left = ap (λ (l : List Event). e ∷ l) (h .left); sound = h .sound })
+    rw z (record { inside = omega (arith, h .inside); here = h .here; left = ap (λ (l : List Event). e ∷ l) (h .left); sound = h .sound; start = h .start })
 
 -- the bytes that a chain still has to write behind event p, by distance q; and the list once it is followed
 abbrev pub pending : List Event → ℕ → ℕ → List ℕ
@@ -67,6 +68,7 @@ pub record Hops (es : List Event) (p q : ℕ) : Type 0 where
   pub here : pending es p q ≡ pending es (p + q) (distance (getD es (p + q) NoEvent)) ++ bytes (own (getD es (p + q) NoEvent))
   pub left : cleared es p q ≡ take (p + q) es ++ tombstone ∷ chain es (p + q) (distance (getD es (p + q) NoEvent)) .left
   pub sound : chain es (p + q) (distance (getD es (p + q) NoEvent)) .panics ≡ false
+  pub start : isStart (getD es (p + q) NoEvent) ≡ true
 
 pub hops : (es : List Event) (p q : ℕ) → p < length es → (q ≡ 0 → ⊥) → chain es p q .panics ≡ false → Hops es p q
 hops es p zero h n s = absurd (n refl)
@@ -82,6 +84,7 @@ hops es p (suc d) h n s =
       here = rw (same, rest, e₃) at (r .here);
       left = ap (λ (l : List Event). take (suc p) es ++ l) (rw (same, rest, e₃) at (r .left)) ∙ sym (append-assoc (take (suc p) es) (take d (drop (suc p) es)) _) ∙ rw (← take-add (suc p) d es, e₁);
       sound = rw (same, rest, e₃) at (r .sound);
+      start = rw same at (r .start);
     }
 
 -- what is behind an event stays when it is made a tombstone
@@ -94,6 +97,9 @@ cleared-here es p q h = rw (chain-cleared es p q, take-suc-set es p tombstone h,
 pub pending-none : (es : List Event) (p q : ℕ) → q ≡ 0 → pending es p q ≡ []
 unfolding bytes entered
 pending-none es p q z = rw (z, follow-none)
+
+pub cleared-none : (es : List Event) (p q : ℕ) → q ≡ 0 → cleared es p q ≡ es
+cleared-none es p q z = rw (z, follow-none) (take-append-drop (suc p) es)
 
 -- The sum of a chain's bytes: at event p, by distance q, with `size` of them passed.
 pub record Sizing (es : List Event) (i d p q size : ℕ) : Type 0 where
@@ -171,6 +177,5 @@ module _ (w : List Event) (o : List ℕ) (i d at : ℕ) where
 
     pub done : q ≡ 0 → (es ≡ cleared w i d) × (out ≡ over o at (pending w i d))
     done z =
-        let a : cleared es p q ≡ es = rw (z, follow-none) (take-append-drop (suc p) es) in
         let b : over out at (pending es p q) ≡ out = rw (pending-none es p q z) (over-none out at) in
-        (sym a ∙ W .list-to, sym b ∙ W .room-to)
+        (sym (cleared-none es p q z) ∙ W .list-to, sym b ∙ W .room-to)

@@ -24,28 +24,6 @@ lands-index es i (suc d) n = let e : i + suc d ≡ suc i + d = omega arith in rw
 pub lands-past : (es : List Event) (i d : ℕ) → (d ≡ 0 → ⊥) → length es ≤ i + d → false ≡ lands (drop (suc i) es) d
 lands-past es i d n h = ap isStart (sym (List·getD-eq-default es NoEvent h)) ∙ lands-index es i d n
 
--- the nodes open past an event, case by case
-module _ (x : Event) (o : ℕ) (es : List Event) where
-  pub next-start : (k d p : ℕ) → x ≡ Start k d → lands es d ≡ true → p ≡ o + min k 1 → Open p ≡ next x o es
-  unfolding next
-  next-start k d p e l q = rw (e, l, q)
-
-  pub next-astray : (k d : ℕ) → x ≡ Start k d → lands es d ≡ false → Fault ≡ next x o es
-  unfolding next
-  next-astray k d e l = rw (e, l)
-
-  pub next-below : x ≡ Finish → o ≡ 0 → Fault ≡ next x o es
-  unfolding next
-  next-below e z = rw (e, z)
-
-  pub next-close : x ≡ Finish → (o ≡ 0 → ⊥) → Open (o - 1) ≡ next x o es
-  unfolding next
-  next-close e n = rw e (go o n)
-    where
-      go : (o : ℕ) → (o ≡ 0 → ⊥) → Open (o - 1) ≡ next Finish o es
-      go zero n = absurd (n refl)
-      go (suc o) n = let q : suc o - 1 ≡ o = omega arith in rw q
-
 -- an event opens one node at most
 pub next-bound : (x : Event) (o p : ℕ) (es : List Event) → next x o es ≡ Open p → p ≤ o + 1
 unfolding next

@@ -1,15 +1,18 @@
 // Events, and `process` of event.rs: their resolution into steps.
 use super::output::Step;
+use super::output::head_of;
 use super::output::put;
+use super::output::put_u64;
 ghost use mathlib.Core.Path.{_≡_};
 ghost use mathlib.Core.Bool.{false};
 ghost use mathlib.Core.List.{_∷_, _++_};
 ghost use Prim.Native.Nat.{suc, _+_, _*_, _/_, _<_, _≤_};
 ghost use lib.ListN.{length, getD, take, set};
-ghost use Rattle.events.specs.Event.{decode, eventsOf, wordsOf, isStart, distance, tombstone};
+ghost use Rattle.events.specs.Event.{decode, eventsOf, wordsOf, distance, tombstone};
 ghost use Rattle.events.specs.Output.{bytes, over, Wrote};
 ghost use Rattle.events.specs.Process.{chain, entered, turnAt, process, file};
-ghost use Rattle.events.specs.Shape.{own, cost, need};
+ghost use Rattle.events.specs.Shape.{own, cost};
+ghost use Rattle.events.specs.Inside.{Say, Laid};
 
 // An event: its kind and the distance to its forward parent, 0 for none; a kind and the raw count; a code and its argument.
 pub enum Event {
@@ -56,7 +59,7 @@ pub fn decode(a: u32, b: u32) -> Event
 }
 
 // Event i of a list.
-pub(crate) fn event_at(words: &[u32], i: usize) -> Event
+fn event_at(words: &[u32], i: usize) -> Event
     requires { ⌜ i < length (now words) / 2 ⌝ }
     ensures { λ r. ⌜ r ≡ getD (eventsOf (now (words .entry))) i Event.NoEvent ⌝ }
 {
@@ -70,18 +73,6 @@ fn clear(words: &mut [u32], i: usize)
 {
     words[2 * i] = 65536;
     words[2 * i + 1] = 0;
-}
-
-pub(crate) fn is_start(e: Event) -> bool
-    ensures { λ r. ⌜ r ≡ isStart e ⌝ }
-{
-    match e {
-        Event::Start(_, _) => true,
-        Event::Finish => false,
-        Event::Token(_, _) => false,
-        Event::Error(_, _) => false,
-        Event::NoEvent => false,
-    }
 }
 
 fn distance(e: Event) -> u32
@@ -128,20 +119,6 @@ fn put_own(out: &mut [u8], at: usize, e: Event) -> usize
     }
 }
 
-// The bytes that the steps of a list take: each event's own, since each is asked for once.
-pub(crate) fn needed(words: &[u32]) -> usize
-    ensures { λ r. ⌜ r ≡ need (eventsOf (now (words .entry))) ⌝ }
-{
-    let n = words.len() / 2;
-    let mut i = 0;
-    let mut sum = 0;
-    while i < n {
-        sum += cost(event_at(words, i));
-        i += 1;
-    }
-    sum
-}
-
 // The bytes of the enters that distance d from event i leads to.
 fn chain_size(words: &[u32], i: usize, d: u32) -> usize
     requires { ⌜ i < length (now words) / 2 ⌝ }
@@ -182,27 +159,84 @@ fn put_chain(words: &mut [u32], out: &mut [u8], i: usize, d: u32, at: usize, siz
     }
 }
 
-// The turn at event i: its steps at a place, and the place past them.
-fn turn(words: &mut [u32], out: &mut [u8], i: usize, at: usize) -> usize
-    requires { ⌜ i < length (now words) / 2 ⌝ }
-    requires { ⌜ turnAt (eventsOf (now words)) i .panics ≡ false ⌝ }
-    requires { ⌜ at + length (file (turnAt (eventsOf (now words)) i .steps)) ≤ length (now out) ⌝ }
-    ensures { λ r. ⌜ Wrote (now (out .entry)) at (file (turnAt (eventsOf (now (words .entry))) i .steps)) r (now (out .exit)) ⌝ }
-    ensures { λ r. ⌜ eventsOf (now (words .exit)) ≡ take i (eventsOf (now (words .entry))) ++ tombstone ∷ turnAt (eventsOf (now (words .entry))) i .left ⌝ }
+// The distance of the event that two words say: only a start has one.
+pub(crate) fn leads(a: u32, b: u32) -> u32
+    requires { ⌜ 65536 ≤ a ⌝ }
+    ensures { λ r. ⌜ r ≡ distance (decode a b) ⌝ }
 {
-    let e = event_at(words, i);
-    let d = distance(e);
-    clear(words, i);
-    let size = chain_size(words, i, d);
-    put_chain(words, out, i, d, at, size);
-    put_own(out, at + size, e)
+    if a < 131072 { b } else { 0 }
 }
 
-// Resolves a list that passes the check into a room that holds its step file; the bytes of the file.
-pub(crate) fn process(words: &mut [u32], out: &mut [u8]) -> usize
+// Writes what the event of two words asks for itself, in one write of eight bytes: what is past its record is to be written over.
+fn put_wide(out: &mut [u8], at: usize, a: u32, b: u32) -> usize
+    requires { ⌜ Say a b ⌝ }
+    requires { ⌜ at + 8 ≤ length (now out) ⌝ }
+    ensures { λ r. ⌜ Laid (now (out .entry)) at (bytes (own (decode a b))) (at + 8) r (now (out .exit)) ⌝ }
+{
+    let head = head_of(a);
+    let tail = a % 65536 + b % 65536 * 65536;
+    put_u64(out, at, head as u64 + tail as u64 * 4294967296);
+    // a tombstone has no record
+    if a == 65536 {
+        return at;
+    }
+    at + 4 + (head % 8) as usize
+}
+
+// The turn at event i, which has a distance. Most chains are one start: its record and the event's are then a wide write each.
+fn turn_led(words: &mut [u32], out: &mut [u8], size: usize, i: usize, at: usize) -> usize
+    requires { ⌜ i < length (now words) / 2 ⌝ }
+    requires { ⌜ turnAt (eventsOf (now words)) i .panics ≡ false ⌝ }
+    requires { ⌜ at + length (file (turnAt (eventsOf (now words)) i .steps)) ≤ size ⌝ }
+    requires { ⌜ size ≤ length (now out) ⌝ }
+    requires { ⌜ (distance (getD (eventsOf (now words)) i Event.NoEvent) ≡ 0 → ⊥) ⌝ }
+    ensures { λ r. ⌜ Laid (now (out .entry)) at (file (turnAt (eventsOf (now (words .entry))) i .steps)) size r (now (out .exit)) ⌝ }
+    ensures { λ r. ⌜ eventsOf (now (words .exit)) ≡ take i (eventsOf (now (words .entry))) ++ tombstone ∷ turnAt (eventsOf (now (words .entry))) i .left ⌝ }
+{
+    let a = words[2 * i];
+    let d = words[2 * i + 1];
+    clear(words, i);
+    let j = i + d as usize;
+    let c = words[2 * j];
+    if words[2 * j + 1] == 0 {
+        if at + 16 <= size {
+            clear(words, j);
+            let past = put_wide(out, at, c, 0);
+            return put_wide(out, past, a, 0);
+        }
+    }
+    let chain = chain_size(words, i, d);
+    put_chain(words, out, i, d, at, chain);
+    put_own(out, at + chain, decode(a, d))
+}
+
+// The turn at event i: its steps at a place, and the place past them. The file ends at `size`, and nothing past it is written.
+fn turn(words: &mut [u32], out: &mut [u8], size: usize, i: usize, at: usize) -> usize
+    requires { ⌜ i < length (now words) / 2 ⌝ }
+    requires { ⌜ turnAt (eventsOf (now words)) i .panics ≡ false ⌝ }
+    requires { ⌜ at + length (file (turnAt (eventsOf (now words)) i .steps)) ≤ size ⌝ }
+    requires { ⌜ size ≤ length (now out) ⌝ }
+    ensures { λ r. ⌜ Laid (now (out .entry)) at (file (turnAt (eventsOf (now (words .entry))) i .steps)) size r (now (out .exit)) ⌝ }
+    ensures { λ r. ⌜ eventsOf (now (words .exit)) ≡ take i (eventsOf (now (words .entry))) ++ tombstone ∷ turnAt (eventsOf (now (words .entry))) i .left ⌝ }
+{
+    let a = words[2 * i];
+    let b = words[2 * i + 1];
+    if leads(a, b) != 0 {
+        return turn_led(words, out, size, i, at);
+    }
+    clear(words, i);
+    if at + 8 <= size {
+        return put_wide(out, at, a, b);
+    }
+    put_own(out, at, decode(a, b))
+}
+
+// Resolves a list that passes the check into a room that holds its step file, of `size` bytes; the bytes of the file.
+pub(crate) fn process(words: &mut [u32], out: &mut [u8], size: usize) -> usize
     requires { ⌜ length (now words) ≡ 2 * (length (now words) / 2) ⌝ }
     requires { ⌜ process (eventsOf (now words)) .panics ≡ false ⌝ }
-    requires { ⌜ length (file (process (eventsOf (now words)) .steps)) ≤ length (now out) ⌝ }
+    requires { ⌜ size ≡ length (file (process (eventsOf (now words)) .steps)) ⌝ }
+    requires { ⌜ size ≤ length (now out) ⌝ }
     ensures { λ r. ⌜ Wrote (now (out .entry)) 0 (file (process (eventsOf (now (words .entry))) .steps)) r (now (out .exit)) ⌝ }
     ensures { λ r. ⌜ now (words .exit) ≡ wordsOf (process (eventsOf (now (words .entry))) .left) ⌝ }
 {
@@ -210,7 +244,7 @@ pub(crate) fn process(words: &mut [u32], out: &mut [u8]) -> usize
     let mut i = 0;
     let mut at = 0;
     while i < n {
-        at = turn(words, out, i, at);
+        at = turn(words, out, size, i, at);
         i += 1;
     }
     at

@@ -1,39 +1,32 @@
 -- `events::event::process` meets its contract. The invariant is `Running`, which a turn keeps.
 -- Assumes nothing.
-use Prim.Native.Nat.{_≤_, _-_, _/_}
+use Prim.Native.Nat.{_-_}
 use native.Mathlib.Omega.{arith}
 use native.Mathlib.Numerals.{add-one}
 use mathlib.Core.Path.{_≡_, refl, _∙_}
 use lib.ListN.{length}
 use Rattle.events.specs.Event.{eventsOf}
-use Rattle.events.specs.Process.{turns, file}
 use Rattle.events.proofs.Encoding.{length-events}
 use Rattle.events.proofs.Running.{Running, begin, here-sound, here-room, onward, done, words-left}
 use Rattle.events.proofs.event.process.Statement.{statement}
 use Rattle.events.proofs.event.process.Tie as tie
 
 abbrev Inv-loop : tie.InvT-loop
-Inv-loop words₀ out₀ n i₀ at₀ words out i at = (length words ≡ length words₀) × Running (eventsOf words₀) out₀ n (eventsOf words) out i at
+Inv-loop words₀ out₀ size n i₀ at₀ words out i at = (length words ≡ length words₀) × Running (eventsOf words₀) out₀ n size (eventsOf words) out i at
 
 abbrev μ-loop : tie.MeasureT-loop
-μ-loop words₀ out₀ n i₀ at₀ words out i at = n - i
-
--- the room holds the whole file
-room : (c : tie.At-loop Inv-loop μ-loop)
-    → length (file (turns (length (c .before .before .before .args .words .now) / 2) 0 (eventsOf (c .before .before .before .args .words .now)) .steps)) ≤ length (c .before .before .before .args .out .now)
-room c = rw length-events at (c .before .before .before .pre .1 .1)
+μ-loop words₀ out₀ size n i₀ at₀ words out i at = n - i
 
 loop-holds : tie.Need-loop-holds Inv-loop μ-loop
 loop-holds c =
     let s = c .before .before in
-    (refl, begin _ _ _ (length-events (s .args .words .now)) (rw length-events at (s .pre .1 .0)))
+    (refl, begin _ _ _ _ (length-events (s .args .words .now)) (rw length-events at (s .pre .1 .0)) (rw length-events at (s .pre .1 .1 .0)))
 
 turn-requires : tie.Need-turn-requires Inv-loop μ-loop
 turn-requires c κs =
     let l = c .before .before .before .loop in
-    let h = room (c .before .before .before) in
     let t = c .before .before .loop-test .taken in
-    (omega (arith, l .inv .0), (here-sound _ _ _ h _ _ _ _ (l .inv .1) t, here-room _ _ _ h _ _ _ _ (l .inv .1) t))
+    (omega (arith, l .inv .0), (here-sound _ _ _ _ _ _ _ _ (l .inv .1) t, (here-room _ _ _ _ _ _ _ _ (l .inv .1) t, omega (arith, l .inv .1 .same-room, c .before .before .before .before .before .before .pre .1 .1 .1))))
 
 add-i : tie.Need-add-i Inv-loop μ-loop
 add-i c = omega arith
@@ -47,7 +40,7 @@ loop-again c =
     let l = t .before .before .before .before .loop in
     let e = t .turn .kept .0 in (
       e ∙ l .inv .0,
-      rw add-one (onward _ _ _ (room (t .before .before .before .before)) _ _ _ _ (l .inv .1) (t .before .before .before .loop-test .taken) _ _ _ (t .turn .ensures .1) (omega (arith, e, length-events (t .turn .last .0), length-events (l .words))) (t .turn .ensures .0)),
+      rw add-one (onward _ _ _ _ _ _ _ _ (l .inv .1) (t .before .before .before .loop-test .taken) _ _ _ (t .turn .ensures .1) (omega (arith, e, length-events (t .turn .last .0), length-events (l .words))) (t .turn .kept .1 .0) (t .turn .ensures .0)),
     )
 
 same-length : tie.Need-same-length Inv-loop μ-loop
@@ -59,7 +52,7 @@ same-length-2 c = c .before .loop .inv .1 .same-room
 returns : tie.Need-returns Inv-loop μ-loop
 returns c =
     let s = c .before .before .before .before in
-    let d = done _ _ _ _ _ _ _ (c .before .loop .inv .1) (c .loop-test .left) in
+    let d = done _ _ _ _ _ _ _ _ (c .before .loop .inv .1) (c .loop-test .left) (rw length-events at (s .pre .1 .1 .0)) in
     rw length-events
     (d .0, words-left _ (s .args .words .now) _ (c .before .loop .inv .0 ∙ s .pre .0) (length-events (s .args .words .now)) (d .1))
 

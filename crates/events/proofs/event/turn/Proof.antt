@@ -1,52 +1,81 @@
--- `events::event::turn` meets its contract: the chain's steps and then the event's own, as `turned` has it.
+-- `events::event::turn` meets its contract: with no distance, the event's own step alone.
 -- Assumes nothing.
 use native.Mathlib.Omega.{arith}
-use mathlib.Core.Path.{_∙_, ap}
+use Prim.Native.Nat.{ℕ, _+_, _*_}
+use mathlib.Core.Path.{_≡_, sym, ap, _∙_}
+use lib.ListN.{getD}
 use borrow.Author.Needs.{needs}
-use Rattle.events.specs.Event.{eventsOf, distance}
+use Rattle.events.specs.declared.event.Event.the-variants.{NoEvent}
+use Rattle.events.specs.Event.{decode, eventsOf, distance}
 use Rattle.events.specs.Shape.{cost}
-use Rattle.events.proofs.Encoding.{length-events}
-use Rattle.events.proofs.Running.{Turning, chain-sound, turn-room, turn-wrote, turn-left}
+use Rattle.events.specs.Inside.{Say}
+use Rattle.events.proofs.Encoding.{length-events, event-index}
+use Rattle.events.proofs.Wide.{laid-wider}
+use Rattle.events.proofs.Table.{say-range}
+use Rattle.events.proofs.Running.{Turning, turn-says, alone-room, alone-laid, alone-wrote, alone-left}
 use Rattle.events.proofs.event.turn.Statement.{statement}
 use Rattle.events.proofs.event.turn.Tie as tie
 
--- the entry, and what is known where the event is cleared
+-- the event's words
+abbrev first : tie.Start → ℕ
+first s = getD (s .args .words .now) (2 * s .args .i) 0
+
+abbrev second : tie.Start → ℕ
+second s = getD (s .args .words .now) (2 * s .args .i + 1) 0
+
+here : (s : tie.Start) → decode (first s) (second s) ≡ getD (eventsOf (s .args .words .now)) (s .args .i) NoEvent
+here s = event-index (s .args .words .now) (s .args .i) (s .pre .0)
+
+says : (s : tie.Start) → Say (first s) (second s)
+says s z = turn-says _ _ _ (s .pre .1 .0) (sym (here s) ∙ z)
+
+-- what is known where the event is cleared
 abbrev entry : tie.After-clear → tie.Start
-entry c = c .before .before .before .before .before .before .before
+entry c = c .before .before .before .before .before .before .before .before
 
 turning : (c : tie.After-clear)
-    → Turning (eventsOf (entry c .args .words .now)) (entry c .args .i) (entry c .args .at) (entry c .args .out .now) (eventsOf (c .clear .last .0)) (c .before .before .distance .result)
+    → Turning (eventsOf (entry c .args .words .now)) (entry c .args .i) (entry c .args .at) (entry c .args .size) (entry c .args .out .now) (eventsOf (c .clear .last .0)) (c .before .before .before .leads .result)
 turning c =
     record {
       inside = omega (arith, length-events (entry c .args .words .now));
       sound = entry c .pre .1 .0;
-      room = entry c .pre .1 .1;
+      room = entry c .pre .1 .1 .0;
+      fits = entry c .pre .1 .1 .1;
       cleared = c .clear .ensures;
-      far = c .before .before .distance .ensures ∙ ap distance (c .before .before .before .event-at .ensures);
+      far = c .before .before .before .leads .ensures ∙ ap distance (here (entry c));
     }
 
-event-at-requires : tie.Need-event-at-requires
-event-at-requires c κs = search needs
+alone : (c : tie.After-clear) → c .before .before .before .leads .result ≡ 0
+alone c = c .before .before .if1 .left
 
-distance-requires : tie.Need-distance-requires
-distance-requires c κs = search needs
+mul-a : tie.Need-mul-a
+mul-a c = search needs
 
-clear-requires : tie.Need-clear-requires
-clear-requires c κs = search needs
+mul-a-2 : tie.Need-mul-a-2
+mul-a-2 c = search needs
 
-chain-size-requires : tie.Need-chain-size-requires
-chain-size-requires c κs = (omega (arith, c .before .before .before .clear .kept .0), chain-sound (turning (c .before .before .before)))
+slice-read-a : tie.Need-slice-read-a
+slice-read-a c = search needs
 
-put-chain-requires : tie.Need-put-chain-requires
-put-chain-requires c κs =
-    let k = c .before .before .before .before .before .before in
-    (omega (arith, k .clear .kept .0), (chain-sound (turning k), (c .before .before .chain-size .ensures, omega (arith, c .before .before .chain-size .ensures, turn-room (turning k)))))
+mul-b : tie.Need-mul-b
+mul-b c = search needs
 
-add-put-own : tie.Need-add-put-own
-add-put-own c = omega (arith, c .before .before .before .before .before .before .before .before .chain-size .ensures, turn-room (turning (c .before .before .before .before .before .before .before .before .before .before .before .before)))
+add-b : tie.Need-add-b
+add-b c = search needs
 
-put-own-requires : tie.Need-put-own-requires
-put-own-requires c κs = omega (arith, c .before .before .before .before .before .before .before .before .chain-size .ensures, turn-room (turning (c .before .before .before .before .before .before .before .before .before .before .before .before)), c .before .before .before .before .before .put-chain .kept .1 .0, ap cost (c .before .before .before .before .before .before .before .before .before .before .before .before .before .before .before .event-at .ensures))
+mul-b-2 : tie.Need-mul-b-2
+mul-b-2 c = search needs
+
+slice-read-b : tie.Need-slice-read-b
+slice-read-b c = search needs
+
+leads-requires : tie.Need-leads-requires
+leads-requires c κs = say-range (first (c .before .before .before .before)) (second (c .before .before .before .before)) (says (c .before .before .before .before)) .0
+
+turn-led-requires : tie.Need-turn-led-requires
+turn-led-requires c κs =
+    let s = c .before .before .before .before .before .before .before .before in
+    (s .pre .0, (s .pre .1 .0, (s .pre .1 .1 .0, (s .pre .1 .1 .1, λ z. c .before .before .if1 .taken (c .before .before .before .leads .ensures ∙ ap distance (here s) ∙ z)))))
 
 same-length : tie.Need-same-length
 same-length c = search needs
@@ -55,24 +84,71 @@ same-length-2 : tie.Need-same-length-2
 same-length-2 c = search needs
 
 returns : tie.Need-returns
-returns c =
-    let k = c .before .before .before .before .before .before .before .before .before .before .before .before .before .before .before in
-    let h = c .before .before .before .before .before .before .before .before .put-chain .ensures in (
-      turn-wrote (turning k) _ _ _ _ (c .before .before .before .before .before .before .before .before .before .before .before .chain-size .ensures) (h .1) (rw (k .before .before .before .event-at .ensures) at (c .before .before .put-own .ensures)),
-      turn-left (turning k) _ (h .0),
-    )
+returns c = c .before .before .before .before .turn-led .ensures
+
+clear-requires : tie.Need-clear-requires
+clear-requires c κs = search needs
+
+add-if2 : tie.Need-add-if2
+add-if2 c = omega (arith, alone-room (turning (c .before .before)) (alone (c .before .before)), turning (c .before .before) .fits)
+
+put-wide-requires : tie.Need-put-wide-requires
+put-wide-requires c κs = (says (entry (c .before .before .before .before)), omega (arith, c .before .if2 .taken, turning (c .before .before .before .before) .fits))
+
+same-length-3 : tie.Need-same-length-3
+same-length-3 c = search needs
+
+same-length-4 : tie.Need-same-length-4
+same-length-4 c = search needs
+
+returns-2 : tie.Need-returns-2
+returns-2 c =
+    let k = c .before .before .before .before .before .before .before in
+    (alone-laid (turning k) (alone k) _ _ (rw (here (entry k)) at (laid-wider _ _ _ _ _ _ _ (c .before .before .before .before .if2 .taken) (c .before .before .put-wide .ensures))), alone-left (turning k) (alone k))
+
+decode-requires : tie.Need-decode-requires
+decode-requires c κs = search needs
+
+put-own-requires : tie.Need-put-own-requires
+put-own-requires c κs =
+    let k = c .before .before .before .before .before in
+    omega (arith, alone-room (turning k) (alone k), turning k .fits, ap cost (c .decode .ensures ∙ here (entry k)))
+
+same-length-5 : tie.Need-same-length-5
+same-length-5 c = search needs
+
+same-length-6 : tie.Need-same-length-6
+same-length-6 c = search needs
+
+returns-3 : tie.Need-returns-3
+returns-3 c =
+    let k = c .before .before .before .before .before .before .before .before in
+    (alone-wrote (turning k) (alone k) _ _ (rw (c .before .before .before .decode .ensures ∙ here (entry k)) at (c .before .before .put-own .ensures)), alone-left (turning k) (alone k))
 
 pub turn-spec : {M : Type 1} → statement M
 turn-spec =
     tie.close
     (tie.spec
-    event-at-requires
-    distance-requires
-    clear-requires
-    chain-size-requires
-    put-chain-requires
-    add-put-own
-    put-own-requires
+    mul-a
+    mul-a-2
+    slice-read-a
+    mul-b
+    add-b
+    mul-b-2
+    slice-read-b
+    leads-requires
+    turn-led-requires
     same-length
     same-length-2
-    returns)
+    returns
+    clear-requires
+    add-if2
+    put-wide-requires
+    same-length-3
+    same-length-4
+    returns-2
+    decode-requires
+    put-own-requires
+    same-length-5
+    same-length-6
+    returns-3)
