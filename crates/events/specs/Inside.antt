@@ -36,9 +36,13 @@ abbrev pub Measures : List ℕ → Measured → Type 0
 Measures ws (Passes size) = (says 0 (length ws / 2) ≡ checked ws) × (size ≡ need (eventsOf ws))
 Measures ws (Fails a) = (numbers a ≡ checked ws) × (numbers a .code ≡ 0 → ⊥)
 
--- the first four bytes of a record as a number, by the tag of its event, of which 4 counts as 0: payload length and record kind
+-- the first four bytes of a record as a number (docs/RULES.md, section 7): payload length and record kind
+abbrev head : ℕ → ℕ → ℕ
+head size kind = size + 65536 * kind
+
+-- by the tag of an event, of which 4 counts as 0: an error, an enter, a leave, a token
 abbrev pub heads : List ℕ
-heads = 262148 ∷ 65538 ∷ 131072 ∷ 196611 ∷ []
+heads = head 4 4 ∷ head 2 1 ∷ head 0 2 ∷ head 3 3 ∷ []
 
 -- a number in eight bytes
 abbrev pub le64 : ℕ → List ℕ
