@@ -70,16 +70,13 @@ pub fn each_thread<T: Send>(threads: usize, body: impl Fn(usize) -> T + Sync) ->
 fn part(count: u64, seed: u64, short: usize, limits: &[Case], own: usize, threads: usize) -> Seen {
     let mut seen = Seen::default();
     let mut number = 0;
-    let mut mine = || {
-        number += 1;
-        number % threads == own
-    };
     let mut list = |alphabet: &[u16], length| {
         generate::short(alphabet, length, |kinds, joints| {
             for entry in ENTRIES {
-                if mine() {
+                number += 1;
+                if number % threads == own {
                     let words = if kinds.is_empty() { vec![] } else { vec![joints] };
-                    seen.look(0, &Case::new(entry, kinds.to_vec(), words), seed);
+                    seen.look(0, &Case::new(entry, kinds.to_vec(), words), Rng::of(seed, number as u64).next());
                 }
             }
         });
@@ -112,7 +109,7 @@ fn part(count: u64, seed: u64, short: usize, limits: &[Case], own: usize, thread
 
 /// The random case of a number, and the seed of what is lent to it.
 pub fn random(seed: u64, number: u64) -> (Case, u64) {
-    let mut rng = Rng::new(Rng::new(seed.wrapping_add(number)).next());
+    let mut rng = Rng::of(seed, number);
     (generate::any(&mut rng), rng.next())
 }
 

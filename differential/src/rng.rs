@@ -7,6 +7,13 @@ impl Rng {
         Rng(seed)
     }
 
+    /// The numbers of one case out of many. The seed is mixed before the case's number is added: else the cases of a seed would be those of
+    /// the next, one later.
+    pub fn of(seed: u64, case: u64) -> Rng {
+        let mixed = Rng::new(seed).next().wrapping_add(case);
+        Rng::new(Rng::new(mixed).next())
+    }
+
     pub fn next(&mut self) -> u64 {
         self.0 = self.0.wrapping_add(0x9e37_79b9_7f4a_7c15);
         let mut z = self.0;

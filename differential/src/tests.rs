@@ -2,6 +2,7 @@
 
 use answer::{kinds, permitted, read_steps, Bounds, End, Entry, Ev, Run, Step, CRATE, LOOKUPS};
 use differential::case::Case;
+use differential::rng::Rng;
 use differential::text::{kind, tokens, tree};
 use differential::{generate, lists, replay};
 use std::panic::{catch_unwind, AssertUnwindSafe};
@@ -32,6 +33,7 @@ pub fn run() -> bool {
         ("the port's 10,000 lookups", port_limit),
         ("the crate's 15,000,000 lookups", crate_limit),
         ("lists that process cannot take", bad_lists),
+        ("seeds", seeds),
     ];
     let mut failed = 0;
     for (name, test) in tests {
@@ -384,4 +386,11 @@ fn bad_lists() {
     assert_eq!((past.file.as_str(), past.line), ("src/event.rs", 118));
     let token = said(&[Ev::Start(40, 1), Ev::Token(50, 1), Ev::Finish]);
     assert_eq!((token.file.as_str(), token.line), ("src/event.rs", 126));
+}
+
+/// Seeds that lie next to each other have no case in common.
+fn seeds() {
+    let cases = |seed| (0..10_000).map(move |case| Rng::of(seed, case).next());
+    let all: std::collections::HashSet<u64> = (1..=3).flat_map(cases).collect();
+    assert_eq!(all.len(), 30_000);
 }
