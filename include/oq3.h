@@ -1,18 +1,23 @@
 /*
- * Grisolemp: a proved parser of OpenQASM 3 token lists, for C99 and C++ on x86-64 Linux.
+ * Grisolemp: a proved parser of OpenQASM 3 token lists, and a reader of the step files that it makes, for C99 and C++ on x86-64 Linux.
  *
- * Link liboq3.a, which tools/library builds. It needs nothing but memset. The three functions take what is lent, return a number and write
- * into lent rooms alone. They use no heap and no global state: they are re-entrant, and what one call answers depends on what it is lent.
- * docs/RULES.md says what each does, to the last word; docs/KINDS.md and docs/MESSAGES.md have the kinds and the error codes.
+ *   liboq3.a        tools/library         all five functions; it needs nothing but memset
+ *   liboq3_read.a   tools/library read    oq3_read_file and oq3_read_step alone; it needs nothing at all, not even memset
  *
- * Nothing checks this header against the source (crates/oq3/src/lib.rt): it is kept by hand, and examples/c/test.c runs it.
+ * A program that parses links the first, one that only reads step files (docs/SEQUENCERS.md) the second; none needs both. The functions take
+ * what is lent, return a number and write into lent rooms alone. They use no heap and no global state: they are re-entrant, and what one call
+ * answers depends on what it is lent. docs/RULES.md says what each does, to the last word; docs/KINDS.md and docs/MESSAGES.md have the kinds
+ * and the error codes.
+ *
+ * Nothing checks this header against the source (crates/oq3/src/lib.rt, crates/oq3_read/src/lib.rt): it is kept by hand, and
+ * examples/c/test.c runs it.
  *
  * What a caller owes, which no call can test:
  *   - A pointer is valid for as many elements as the length behind it says, and aligned for its type. With a length of 0 it is still
  *     not null and aligned, and is not read.
  *   - No two rooms of one call overlap, and nothing else reads or writes them while it runs.
- *   - OQ3_STACK bytes of stack are left. The proofs know no stack; tools/stack reads the bound off the compiled code. oq3_check and
- *     oq3_resolve take a few hundred.
+ *   - OQ3_STACK bytes of stack are left. The proofs know no stack; tools/stack reads the bound off the compiled code. All but
+ *     oq3_parse take a few hundred.
  * Everything else may have any value: there is no further condition on any number, word or length.
  */
 #ifndef OQ3_H
@@ -27,7 +32,7 @@ extern "C" {
 
 /* What a call returns: done, or why it is refused. The place is the first word of the answer room. "consumed" are the tokens consumed. */
 enum {
-    OQ3_DONE = 0,            /* place: oq3_parse: consumed; oq3_check: events; oq3_resolve: bytes written */
+    OQ3_DONE = 0,            /* place: oq3_parse: consumed; oq3_check: events; oq3_resolve: bytes written; oq3_read_file: the file's length */
     OQ3_BAD_MODE = 1,        /* the mode is neither 0 nor 1; place 0 */
     OQ3_TOO_LONG = 2,        /* more than 8,192 tokens, or a list of more than 65,536 events; place 0 */
     OQ3_FEW_JOINTS = 3,      /* fewer joint words than tokens / 64, rounded up; place 0 */
@@ -38,6 +43,9 @@ enum {
     OQ3_STOPPED = 8,         /* where oq3_parser 0.7.0 panics (docs/PANICS.md), or a source file would leave a token; place: consumed */
     OQ3_FAULTY_LIST = 9,     /* the list is not well formed; place: the first faulty event */
     OQ3_NO_STEP_ROOM = 10,   /* the step room is too small; place: the bytes needed */
+    OQ3_CUT_RECORD = 11,     /* a record runs past the end of the file; place: the byte where it begins */
+    OQ3_BAD_RECORD = 12,     /* no such record kind, another length than it has, or a raw count that is not 1 to 3; place: as for 11 */
+    OQ3_BAD_NESTING = 13,    /* the records are not those of one tree; place: the first that is not, or the file's length (oq3_read_file) */
     OQ3_NO_ANSWER_ROOM = 100, /* the answer room is too short: nothing is read or written, and there is no place */
     OQ3_BAD_ENTRY = 101      /* oq3_parse: the entry is none of the three; place 0 */
 };
@@ -55,6 +63,12 @@ enum {
     OQ3_MOST_ROOM = 131072,      /* words of the largest event room: two for each event */
     OQ3_MOST_STEPS = 524288,     /* bytes of the longest step file: eight for each event */
     OQ3_STACK = 262144           /* bytes of stack that are enough for any call, on x86-64 */
+};
+
+/* The words of an answer about a step file. */
+enum {
+    OQ3_FILE_WORDS = 2,  /* oq3_read_file: place, records */
+    OQ3_STEP_WORDS = 6   /* oq3_read_step: bytes taken, record kind, and four for the payload */
 };
 
 /* The least number of joint words for so many tokens. */
@@ -104,9 +118,40 @@ uint32_t oq3_resolve(uint32_t *words, size_t words_length,
                      uint64_t *answer, size_t answer_length);
 
 /*
- * A step file is one record after the other: payload length in 2 bytes, record kind in 2 bytes, payload; all little-endian.
+ * Whether a whole step file is good: 0, 11, 12 or 13. It changes nothing but the answer; a file may have any length.
+ *
+ *   answer  at least OQ3_FILE_WORDS words: the place and the records. A refusal has 0 records. Further words stay
+ *
+ * A file is good when it has a record, each is sound, and they are one tree: the depth, +1 at an enter and -1 at a leave, is 0 after the last
+ * record and above 0 after every earlier one. So it is one node, or a lone token or error. Records are judged from the front, each for 11,
+ * then 12, then 13, and the first fault is told, with the offset of its record. It is the file's length for a 13 that only the end shows: no
+ * record at all (13 at 0), or a node that is still open. A good file that is cut anywhere is refused: with 11, or, cut between two records,
+ * with 13 at its length.
+ *
+ * oq3_check judges lists of events, this judges step files. What oq3_resolve writes of a list that passes the check need not be a good file:
+ * it may have no step, or several roots, as a parse from OQ3_ITEM may leave. From OQ3_SOURCE_FILE it is always good.
+ */
+uint32_t oq3_read_file(const uint8_t *file, size_t file_length,
+                       uint64_t *answer, size_t answer_length);
+
+/*
+ * Reads the first step of a file, or of what is left of one: 0, 11 or 12. It changes nothing but the answer.
+ *
+ *   answer  at least OQ3_STEP_WORDS words: the bytes taken, where the rest begins; the record kind (OQ3_STEP_ENTER and so on); then the
+ *           payload's numbers in their order, and 0 for those that it lacks. Further words stay
+ *
+ * On no bytes it returns 0 with record kind 0: the end. There and on a refusal all six words are 0. Nesting is not judged, so ask
+ * oq3_read_file first: in a good file each call from the front to the end is done, as many as it has records.
+ */
+uint32_t oq3_read_step(const uint8_t *file, size_t file_length,
+                       uint64_t *answer, size_t answer_length);
+
+/*
+ * A step file is one record after the other: payload length in 2 bytes, record kind in 2 bytes, payload; all little-endian. What is named
+ * here is the payload; oq3_read_step has its numbers in answer[2] and answer[3].
  */
 enum {
+    OQ3_STEP_END = 0,     /* no record: what oq3_read_step says at the end */
     OQ3_STEP_ENTER = 1,   /* kind, 2 bytes */
     OQ3_STEP_LEAVE = 2,   /* no payload */
     OQ3_STEP_TOKEN = 3,   /* kind, 2 bytes; raw count, 1 byte: how many tokens it is glued of, 1, 2 or 3 */

@@ -10,8 +10,8 @@
 #define GUARD 16 /* elements on both sides of a room */
 #define WORDS 45016 /* 22,508 events: the least room in which `def f ( 3` is refused with 7 (docs/PANICS.md) */
 
-enum { L_PAREN = 5, MINUS = 37, DEF_KW = 58, DELAY_KW = 63, INT_NUMBER = 99, IDENT = 115, SEMICOLON = 3, EQ = 32, EQ2 = 33, EOF_KIND = 1,
-       BIN_EXPR = 160, IDENTIFIER = 187 };
+enum { L_PAREN = 5, R_CURLY = 8, MINUS = 37, DEF_KW = 58, DELAY_KW = 63, RESET_KW = 64, INT_NUMBER = 99, IDENT = 115, SEMICOLON = 3, EQ = 32,
+       EQ2 = 33, EOF_KIND = 1, ERROR = 114, BIN_EXPR = 160, IDENTIFIER = 187 };
 
 static int failed;
 
@@ -30,7 +30,7 @@ static uint16_t kinds_all[GUARD + OQ3_MOST_TOKENS + 1 + GUARD], *const kinds = k
 static uint64_t joints_all[GUARD + 129 + GUARD], *const joints = joints_all + GUARD;
 static uint32_t room_all[GUARD + OQ3_MOST_ROOM + 2 + GUARD], *const room = room_all + GUARD;
 static uint8_t steps_all[GUARD + 1024 + GUARD], *const steps = steps_all + GUARD;
-static uint64_t answer_all[GUARD + 4 + GUARD], *const answer = answer_all + GUARD;
+static uint64_t answer_all[GUARD + 8 + GUARD], *const answer = answer_all + GUARD;
 
 static uint16_t kinds_before[GUARD + OQ3_MOST_TOKENS + 1 + GUARD];
 static uint64_t joints_before[GUARD + 129 + GUARD];
@@ -122,15 +122,64 @@ static void resolves(int line, size_t words, size_t bytes, size_t answers, uint3
     }
 }
 
+/* A whole step file, the first bytes of the step room: its number, place and records. */
+static void reads(int line, size_t bytes, size_t answers, uint32_t number, uint64_t place, uint64_t records)
+{
+    begin();
+    is(line, "the number", oq3_read_file(steps, bytes, answer, answers), number);
+    ended(line, 0, 0, number == OQ3_NO_ANSWER_ROOM ? 0 : OQ3_FILE_WORDS);
+    if (number != OQ3_NO_ANSWER_ROOM) {
+        is(line, "the place", answer[0], place);
+        is(line, "the records", answer[1], records);
+    }
+}
+
+/* One step, of the step room's bytes from one place to another: its number, the bytes taken, the record kind and the payload's numbers. */
+static void takes(int line, size_t from, size_t to, size_t answers, uint32_t number, uint64_t taken, uint64_t record, uint64_t first,
+                  uint64_t second)
+{
+    begin();
+    is(line, "the number", oq3_read_step(steps + from, to - from, answer, answers), number);
+    ended(line, 0, 0, number == OQ3_NO_ANSWER_ROOM ? 0 : OQ3_STEP_WORDS);
+    if (number != OQ3_NO_ANSWER_ROOM) {
+        is(line, "the bytes taken", answer[0], taken);
+        is(line, "the record kind", answer[1], record);
+        is(line, "the first number", answer[2], first);
+        is(line, "the second number", answer[3], second);
+        is(line, "the third number", answer[4], 0);
+        is(line, "the fourth number", answer[5], 0);
+    }
+}
+
+/* A lone record, in both calls. */
+static void record(int line, const uint8_t *bytes, size_t count, uint32_t number)
+{
+    fill();
+    memcpy(steps, bytes, count);
+    reads(line, count, 3, number, number == OQ3_DONE ? count : 0, number == OQ3_DONE);
+    if (number != OQ3_DONE) {
+        takes(line, 0, count, 7, number, 0, 0, 0, 0);
+    }
+}
+
 #define PARSES(...) parses(__LINE__, __VA_ARGS__)
 #define CHECKS(...) checks(__LINE__, __VA_ARGS__)
 #define RESOLVES(...) resolves(__LINE__, __VA_ARGS__)
+#define READS(...) reads(__LINE__, __VA_ARGS__)
+#define TAKES(...) takes(__LINE__, __VA_ARGS__)
+#define RECORD(bytes, number) record(__LINE__, bytes, sizeof bytes, number)
 
 static void tokens(const uint16_t *list_of, size_t count)
 {
     fill();
     memset(joints_all, 0, sizeof joints_all);
     memcpy(kinds, list_of, count * sizeof *kinds);
+}
+
+static void file(const uint8_t *bytes, size_t count)
+{
+    fill();
+    memcpy(steps, bytes, count);
 }
 
 static void same(uint16_t kind, size_t count)
@@ -196,6 +245,100 @@ int main(void)
     CHECKS(22, 1, OQ3_DONE, 11);
     RESOLVES(22, 50, 1, OQ3_NO_STEP_ROOM, 51);
     RESOLVES(22, 51, 1, OQ3_DONE, 51);
+
+    /* Its file: whole, cut, and with two bytes behind it. The reader writes nothing but its answer. */
+    READS(51, 2, OQ3_DONE, 51, 9);
+    READS(51, 8, OQ3_DONE, 51, 9);
+    READS(51, 1, OQ3_NO_ANSWER_ROOM, 0, 0);
+    READS(51, 0, OQ3_NO_ANSWER_ROOM, 0, 0);
+    READS(50, 2, OQ3_CUT_RECORD, 47, 0);
+    READS(47, 2, OQ3_BAD_NESTING, 47, 0);
+    READS(3, 2, OQ3_CUT_RECORD, 0, 0);
+    READS(0, 2, OQ3_BAD_NESTING, 0, 0);
+    READS(53, 2, OQ3_CUT_RECORD, 51, 0);
+    for (i = 0; i < 51; i++) {
+        begin();
+        is(__LINE__, "a cut file is done", oq3_read_file(steps, i, answer, 2) == OQ3_DONE, 0);
+        IS(answer[1], 0);
+    }
+
+    /* Its steps, one by one, with the rest of the file; then the end. */
+    TAKES(0, 51, 6, OQ3_DONE, 6, OQ3_STEP_ENTER, 41, 0);
+    TAKES(6, 51, 8, OQ3_DONE, 6, OQ3_STEP_ENTER, 40, 0);
+    TAKES(12, 51, 6, OQ3_DONE, 7, OQ3_STEP_TOKEN, 50, 1);
+    TAKES(19, 51, 6, OQ3_DONE, 4, OQ3_STEP_LEAVE, 0, 0);
+    TAKES(23, 51, 6, OQ3_DONE, 7, OQ3_STEP_TOKEN, 51, 1);
+    TAKES(30, 51, 6, OQ3_DONE, 6, OQ3_STEP_ENTER, 40, 0);
+    TAKES(36, 51, 6, OQ3_DONE, 7, OQ3_STEP_TOKEN, 50, 1);
+    TAKES(43, 51, 6, OQ3_DONE, 4, OQ3_STEP_LEAVE, 0, 0);
+    TAKES(47, 51, 6, OQ3_DONE, 4, OQ3_STEP_LEAVE, 0, 0);
+    TAKES(51, 51, 6, OQ3_DONE, 0, OQ3_STEP_END, 0, 0);
+    TAKES(51, 51, 8, OQ3_DONE, 0, OQ3_STEP_END, 0, 0);
+    TAKES(47, 50, 6, OQ3_CUT_RECORD, 0, 0, 0, 0);
+    TAKES(12, 18, 6, OQ3_CUT_RECORD, 0, 0, 0, 0);
+    TAKES(1, 51, 6, OQ3_CUT_RECORD, 0, 0, 0, 0);
+    for (i = 0; i < OQ3_STEP_WORDS; i++) {
+        TAKES(0, 51, i, OQ3_NO_ANSWER_ROOM, 0, 0, 0, 0);
+        TAKES(51, 51, i, OQ3_NO_ANSWER_ROOM, 0, 0, 0, 0);
+    }
+
+    /* 13: two roots, a leave too many, a node left open. Three nodes, one inside the other, are good. */
+    const uint8_t roots[] = { 2, 0, OQ3_STEP_ENTER, 0, 40, 0, 0, 0, OQ3_STEP_LEAVE, 0, 2, 0, OQ3_STEP_ENTER, 0, 40, 0, 0, 0, OQ3_STEP_LEAVE, 0 };
+    const uint8_t three[] = {
+        2, 0, OQ3_STEP_ENTER, 0, 40, 0, 2, 0, OQ3_STEP_ENTER, 0, 41, 0, 2, 0, OQ3_STEP_ENTER, 0, 42, 0,
+        0, 0, OQ3_STEP_LEAVE, 0, 0, 0, OQ3_STEP_LEAVE, 0, 0, 0, OQ3_STEP_LEAVE, 0
+    };
+    const uint8_t leave[] = { 0, 0, OQ3_STEP_LEAVE, 0 };
+    file(roots, sizeof roots);
+    READS(20, 2, OQ3_BAD_NESTING, 10, 0);
+    READS(10, 2, OQ3_DONE, 10, 2);
+    READS(6, 2, OQ3_BAD_NESTING, 6, 0);
+    TAKES(10, 20, 6, OQ3_DONE, 6, OQ3_STEP_ENTER, 40, 0);
+    file(three, sizeof three);
+    READS(30, 2, OQ3_DONE, 30, 6);
+    file(leave, sizeof leave);
+    READS(4, 2, OQ3_BAD_NESTING, 0, 0);
+    TAKES(0, 4, 6, OQ3_DONE, 4, OQ3_STEP_LEAVE, 0, 0);
+
+    /* A lone token or error is good, of any kind, code and argument; 12 for what is no record, 11 first where it runs past the end. */
+    const uint8_t token_one[] = { 3, 0, OQ3_STEP_TOKEN, 0, 255, 255, 1 }, token_three[] = { 3, 0, OQ3_STEP_TOKEN, 0, 0, 0, 3 };
+    const uint8_t token_none[] = { 3, 0, OQ3_STEP_TOKEN, 0, 50, 0, 0 }, token_four[] = { 3, 0, OQ3_STEP_TOKEN, 0, 50, 0, 4 };
+    const uint8_t lone_error[] = { 4, 0, OQ3_STEP_ERROR, 0, 255, 255, 254, 255 };
+    const uint8_t no_kind[] = { 0, 0, 9, 0 }, far_past[] = { 255, 255, 9, 0 }, kind_five[] = { 4, 0, 5, 0, 1, 0, 3, 0 }, end_kind[] = { 0, 0, 0, 0 };
+    const uint8_t enter_long[] = { 3, 0, OQ3_STEP_ENTER, 0, 40, 0, 0 }, leave_long[] = { 1, 0, OQ3_STEP_LEAVE, 0, 0 };
+    const uint8_t token_short[] = { 2, 0, OQ3_STEP_TOKEN, 0, 50, 0 }, error_short[] = { 3, 0, OQ3_STEP_ERROR, 0, 1, 0, 3 };
+    const uint8_t high_kind[] = { 0, 0, OQ3_STEP_LEAVE, 1 };
+    RECORD(token_one, OQ3_DONE);
+    RECORD(token_three, OQ3_DONE);
+    RECORD(lone_error, OQ3_DONE);
+    TAKES(0, 8, 6, OQ3_DONE, 8, OQ3_STEP_ERROR, 65535, 65534);
+    RECORD(token_none, OQ3_BAD_RECORD);
+    RECORD(token_four, OQ3_BAD_RECORD);
+    RECORD(no_kind, OQ3_BAD_RECORD);
+    RECORD(far_past, OQ3_CUT_RECORD);
+    RECORD(kind_five, OQ3_BAD_RECORD);
+    RECORD(end_kind, OQ3_BAD_RECORD);
+    RECORD(enter_long, OQ3_BAD_RECORD);
+    RECORD(leave_long, OQ3_BAD_RECORD);
+    RECORD(token_short, OQ3_BAD_RECORD);
+    RECORD(error_short, OQ3_BAD_RECORD);
+    RECORD(high_kind, OQ3_BAD_RECORD);
+
+    /* What the entry item leaves: one root on `}`, several on `reset ;`. Of a list without steps the file has no bytes. */
+    const uint16_t brace[] = { R_CURLY }, resets[] = { RESET_KW, SEMICOLON };
+    const uint32_t bare[] = { OQ3_EVENT_START, 0 };
+    tokens(brace, 1);
+    IS(oq3_parse(OQ3_ITEM, 0, kinds, 1, joints, 1, room, 100, answer, 3), OQ3_DONE);
+    RESOLVES(2 * (size_t)answer[1], 1024, 1, OQ3_DONE, 25);
+    READS(25, 2, OQ3_DONE, 25, 4);
+    TAKES(0, 25, 6, OQ3_DONE, 6, OQ3_STEP_ENTER, ERROR, 0);
+    tokens(resets, 2);
+    IS(oq3_parse(OQ3_ITEM, 0, kinds, 2, joints, 1, room, 100, answer, 3), OQ3_DONE);
+    RESOLVES(2 * (size_t)answer[1], 1024, 1, OQ3_DONE, 40);
+    READS(40, 2, OQ3_BAD_NESTING, 7, 0);
+    list(bare, 2);
+    RESOLVES(2, 1024, 1, OQ3_DONE, 0);
+    READS(0, 2, OQ3_BAD_NESTING, 0, 0);
 
     /* An error is a step, and the largest record. */
     const uint32_t error[] = { OQ3_EVENT_ERROR + 1, SEMICOLON };

@@ -1,6 +1,7 @@
 /*
- * Parses a small program, resolves it, walks its step file and prints the tree; then shows a refusal. The tokens come from a lexer that is
- * not part of the library: here they are written out, with the numbers of docs/KINDS.md.
+ * Parses a small program, resolves it, reads its step file and prints the tree; then shows a refusal. The tokens come from a lexer that is
+ * not part of the library: here they are written out, with the numbers of docs/KINDS.md. sequencer.c reads a step file that another program
+ * has made.
  */
 #include <stdio.h>
 
@@ -46,40 +47,32 @@ static const char *name_of(unsigned kind)
     }
 }
 
-static unsigned two_bytes(const uint8_t *at)
-{
-    return at[0] + 256u * at[1];
-}
-
-/* Prints a step file as an indented tree. Returns the raw tokens that its steps cover, or -1 where it is no tree of records. */
+/* Prints a step file as an indented tree. Returns the raw tokens that its steps cover, or -1 where the file is not good. */
 static long walk(const uint8_t *file, size_t length)
 {
+    uint64_t step[OQ3_STEP_WORDS];
     size_t at = 0;
     long tokens = 0;
     int depth = 0;
-    while (length - at >= 4) {
-        unsigned payload = two_bytes(file + at);
-        unsigned record = two_bytes(file + at + 2);
-        const uint8_t *body = file + at + 4;
-        if (length - at - 4 < payload) {
-            return -1;
-        }
-        if (record == OQ3_STEP_ENTER && payload == 2) {
-            printf("%*snode %u%s\n", 2 * depth, "", two_bytes(body), name_of(two_bytes(body)));
-            depth++;
-        } else if (record == OQ3_STEP_LEAVE && payload == 0 && depth > 0) {
-            depth--;
-        } else if (record == OQ3_STEP_TOKEN && payload == 3) {
-            printf("%*stoken %u%s\n", 2 * depth, "", two_bytes(body), name_of(two_bytes(body)));
-            tokens += body[2];
-        } else if (record == OQ3_STEP_ERROR && payload == 4) {
-            printf("%*serror %u, argument %u\n", 2 * depth, "", two_bytes(body), two_bytes(body + 2));
-        } else {
-            return -1;
-        }
-        at += 4 + (size_t)payload;
+    if (oq3_read_file(file, length, answer, 3) != OQ3_DONE) {
+        return -1;
     }
-    return at == length && depth == 0 ? tokens : -1;
+    while (oq3_read_step(file + at, length - at, step, OQ3_STEP_WORDS) == OQ3_DONE && step[1] != OQ3_STEP_END) {
+        unsigned first = (unsigned)step[2], second = (unsigned)step[3];
+        if (step[1] == OQ3_STEP_ENTER) {
+            printf("%*snode %u%s\n", 2 * depth, "", first, name_of(first));
+            depth++;
+        } else if (step[1] == OQ3_STEP_LEAVE) {
+            depth--;
+        } else if (step[1] == OQ3_STEP_TOKEN) {
+            printf("%*stoken %u%s\n", 2 * depth, "", first, name_of(first));
+            tokens += (long)second;
+        } else {
+            printf("%*serror %u, argument %u\n", 2 * depth, "", first, second);
+        }
+        at += (size_t)step[0];
+    }
+    return tokens;
 }
 
 int main(void)
