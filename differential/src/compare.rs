@@ -3,10 +3,12 @@
 use answer::{set_hook, with_stack};
 
 mod events;
+mod files;
 mod lent;
 mod parse;
 mod port;
 mod wrong;
+mod wrong_files;
 mod wrong_parse;
 
 fn main() {
@@ -17,6 +19,7 @@ fn main() {
         [what, count, seed] => match (what, count.parse(), seed.parse()) {
             ("events", Ok(count), Ok(seed)) => wrong::run(seed) && events::run(count, seed),
             ("parse", Ok(count), Ok(seed)) => wrong_parse::run(seed) && parse::run(count, seed),
+            ("files", Ok(count), Ok(seed)) => wrong_files::run(seed) && files::run(count, seed),
             _ => usage(),
         },
         _ => usage(),
@@ -25,6 +28,6 @@ fn main() {
 }
 
 fn usage() -> bool {
-    eprintln!("usage: compare events|parse COUNT SEED");
+    eprintln!("usage: compare events|parse|files COUNT SEED");
     false
 }

@@ -1,6 +1,7 @@
 //! The port's static library behind safe functions: the thin wrapper for Rust, and what the differential runs and the benchmark call. It
-//! needs no other file. Nothing holds the declarations to the library: they are the exported functions of crates/oq3/src/lib.rt, and a slice
-//! is a pointer and a length. What each number says stands in docs/RULES.md, and what to lend in include/oq3.h.
+//! needs no other file. Nothing holds the declarations to the library: they are the exported functions of crates/oq3/src/lib.rt and
+//! crates/oq3_read/src/lib.rt, and a slice is a pointer and a length. What each number says stands in docs/RULES.md, and what to lend in
+//! include/oq3.h. A program that only reads step files takes the last two and links `oq3_read` instead.
 
 #[link(name = "oq3", kind = "static")]
 extern "C" {
@@ -25,6 +26,8 @@ extern "C" {
         answer: *mut u64,
         answer_length: usize,
     ) -> u32;
+    fn oq3_read_file(file: *const u8, file_length: usize, answer: *mut u64, answer_length: usize) -> u32;
+    fn oq3_read_step(file: *const u8, file_length: usize, answer: *mut u64, answer_length: usize) -> u32;
 }
 
 /// The list check: its number. The place is the first word of `answer`; where that has none, 100 is said and nothing is done.
@@ -45,4 +48,18 @@ pub fn parse(entry: u32, mode: u32, kinds: &[u16], joints: &[u64], room: &mut [u
     let (k, j, r, a) = (kinds.as_ptr(), joints.as_ptr(), room.as_mut_ptr(), answer.as_mut_ptr());
     // SAFETY: as in `check`.
     unsafe { oq3_parse(entry, mode, k, kinds.len(), j, joints.len(), r, room.len(), a, answer.len()) }
+}
+
+/// A whole step file: its number. The first two words of `answer` are the place and the records; where it has fewer, 100 is said and
+/// nothing is done.
+pub fn read_file(file: &[u8], answer: &mut [u64]) -> u32 {
+    // SAFETY: as in `check`.
+    unsafe { oq3_read_file(file.as_ptr(), file.len(), answer.as_mut_ptr(), answer.len()) }
+}
+
+/// The first step of a file: its number. The first six words of `answer` are the bytes taken, the record kind (0 at the end) and the
+/// payload's numbers; where it has fewer, 100 is said and nothing is done.
+pub fn read_step(file: &[u8], answer: &mut [u64]) -> u32 {
+    // SAFETY: as in `check`.
+    unsafe { oq3_read_step(file.as_ptr(), file.len(), answer.as_mut_ptr(), answer.len()) }
 }
