@@ -378,7 +378,7 @@ pub fn rows(most: u32, each: &mut dyn FnMut(&[u8])) {
         Record::new(2, 257, &[40, 0]),
         Record::new(2, 2, &[0, 0]),
         Record::new(0, 1, &[]),
-        Record::new(u16::MAX, 2, &[]),
+        Record::new(u16::MAX, 9, &[]),
     ];
     let mut row = Vec::new();
     for length in 0..=most {
