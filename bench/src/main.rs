@@ -3,6 +3,7 @@
 //!     bench programs                        writes the programs, one line each
 //!     bench time FILE                       a line for each program, half and room: the ratio of the two times
 //!     bench repeat FILE PROGRAM SIDE COUNT  COUNT turns of one side, for an instrument that counts
+//!     bench steps FILE PROGRAM              writes the step file of a program
 //!
 //! A SIDE is `crate`, `port` (rooms of the size needed) or `largest` (the largest rooms), with `-both` behind it where the list is resolved
 //! too. Nothing is cleared between two calls by the caller.
@@ -11,6 +12,7 @@ use answer::{Entry, Step};
 use differential::{case::Case, generate, rng::Rng};
 use oq3_plain::{entries, Input, TopEntryPoint};
 use std::hint::black_box;
+use std::io::Write;
 use std::time::{Duration, Instant};
 
 #[path = "../../differential/src/port.rs"]
@@ -20,6 +22,8 @@ const SIZES: [usize; 3] = [50, 1_000, 8_000];
 const LARGEST: usize = 131_072;
 const LONGEST: usize = 524_288;
 const DONE: u32 = 0;
+/// The record kind of an error.
+const ERROR: u64 = 4;
 
 /// A port's call with its rooms.
 struct Lent<'c> {
@@ -100,6 +104,7 @@ fn agreed(case: &Case) -> (Vec<u8>, usize) {
     assert_eq!(port::check(&lent.room[..words], &mut [0]), DONE, "a list that passes");
     assert_eq!(lent.resolve(), DONE, "it is resolved");
     assert!(lent.steps[..lent.answer[0] as usize] == steps, "the same steps");
+    assert_eq!(port::read_file(&steps, &mut lent.answer), DONE, "a good file");
     (steps, errors)
 }
 
@@ -110,8 +115,13 @@ fn tried(list: &[(u16, bool)]) -> Option<usize> {
     if lent.turn(true) != DONE {
         return None;
     }
-    let steps = answer::read_steps(&lent.steps[..lent.answer[0] as usize]);
-    Some(steps.iter().filter(|step| matches!(step, Step::Error(..))).count())
+    let mut file = &lent.steps[..lent.answer[0] as usize];
+    let (mut errors, mut step) = (0, [0; 6]);
+    while port::read_step(file, &mut step) == DONE && step[1] != 0 {
+        errors += (step[1] == ERROR) as usize;
+        file = &file[step[0] as usize..];
+    }
+    Some(errors)
 }
 
 /// A program of just so many tokens: statements of the generator, one after the other. Of a broken one, one statement in four is damaged,
@@ -246,6 +256,11 @@ fn repeat(path: &str, number: usize, side: &str, count: usize) {
     }
 }
 
+fn steps(path: &str, number: usize) {
+    let (file, _) = agreed(&read(path)[number]);
+    std::io::stdout().write_all(&file).expect("the step file is written");
+}
+
 fn main() {
     let args: Vec<String> = std::env::args().skip(1).collect();
     let args: Vec<&str> = args.iter().map(String::as_str).collect();
@@ -253,8 +268,9 @@ fn main() {
         ["programs"] => programs(),
         ["time", path] => time(path),
         ["repeat", path, number, side, count] => repeat(path, number.parse().expect("a number"), side, count.parse().expect("a count")),
+        ["steps", path, number] => steps(path, number.parse().expect("a number")),
         _ => {
-            eprintln!("bench: programs, time FILE, repeat FILE PROGRAM SIDE COUNT");
+            eprintln!("bench: programs, time FILE, repeat FILE PROGRAM SIDE COUNT, steps FILE PROGRAM");
             std::process::exit(2);
         }
     }
