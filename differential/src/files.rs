@@ -217,18 +217,17 @@ fn compare(calls: Calls, file: &[u8], must: &Judged, rng: &mut Rng, made: &mut u
         let said = format!("it says {code} at {} with {} records", now[0], now[1]);
         return Err(format!("read_file: {said} and must say {number} at {place} with {records}"));
     }
-    same("read_file", "what stands beside the answer", answer.holds(&[place as u64, records as u64]))?;
+    must_be(answer.holds(&[place as u64, records as u64]), || "read_file: what stands beside the answer".to_string())?;
     // an answer room that is too short, for both calls
     for (name, call, most) in [("read_file", calls.file, FILE), ("read_step", calls.step, STEP)] {
         let words = rng.below(most);
         let mut answer = Lent::fresh(words, rng, |n| n);
         let code = call(lent.room(), answer.room());
-        let name = format!("{name}, {words} words for the answer");
-        same(&name, &format!("the number {code}"), code == 100)?;
-        same(&name, "the answer room", answer.holds(&[]))?;
+        must_be(code == 100, || format!("{name}, {words} words for the answer: the number {code}"))?;
+        must_be(answer.holds(&[]), || format!("{name}, {words} words for the answer: the answer room"))?;
     }
     walk(calls, &mut lent, must, rng, made)?;
-    same("the calls", "the file", lent.holds(&[]))
+    must_be(lent.holds(&[]), || "the file".to_string())
 }
 
 /// Walks a file step by step: each step, with the bytes that it takes, and what is said behind the last. A caller that judges the depths of
@@ -266,10 +265,10 @@ fn walk(calls: Calls, lent: &mut Lent<u8>, must: &Judged, rng: &mut Rng, made: &
         depth = if kind == 1 { depth + 1 } else { depth.saturating_sub((kind == 2) as u64) };
         at += taken;
     }
-    let last = answer.room_now()[..STEP].to_vec();
-    same("read_step", "what stands beside the answer", answer.holds(&last))?;
+    let last: [u64; STEP] = answer.room_now()[..STEP].try_into().expect("six words");
+    must_be(answer.holds(&last), || "read_step: what stands beside the answer".to_string())?;
     let verdict = verdict.unwrap_or((0, at, must.steps.len()));
-    same("the walk", &format!("its end, {verdict:?},"), verdict == must.said)
+    must_be(verdict == must.said, || format!("what the steps add up to, {verdict:?},"))
 }
 
 /// The answer to a step.
@@ -283,11 +282,11 @@ fn words(taken: usize, step: Step) -> [u64; STEP] {
     [taken as u64, kind, first as u64, second as u64, 0, 0]
 }
 
-fn same(call: &str, what: &str, good: bool) -> Result<(), String> {
+fn must_be(good: bool, what: impl FnOnce() -> String) -> Result<(), String> {
     if good {
         return Ok(());
     }
-    Err(format!("{call}: {what} is not as it must be"))
+    Err(format!("{} is not as it must be", what()))
 }
 
 /// Makes a file smaller as long as it is still a bad one: leaves out bytes, many at a time and then few, and sets bytes to 0.
