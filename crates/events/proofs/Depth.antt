@@ -10,7 +10,7 @@ use lib.ListN.{length}
 use borrow.Author.Tests.{ne-eqb}
 use Rattle.events.specs.declared.event.Event.{Event}
 use Rattle.events.specs.declared.event.Event.the-variants.{Start, Finish, Token, Error, NoEvent}
-use Rattle.events.specs.declared.output.Step.{Step}
+use Rattle.records.specs.declared.Step.{Step}
 use Rattle.events.specs.Answer.{says}
 use Rattle.events.specs.Check.{lands, next, onNext, scan}
 use Rattle.events.specs.Process.{Parent, placed, follow, enters, entered, turn, turns, process, stepsOf}

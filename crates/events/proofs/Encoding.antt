@@ -9,17 +9,13 @@ use mathlib.Core.List.{List, [], _∷_}
 use lib.Dec.{eqb, leb, ltb}
 use lib.ListN.{length, getD, set, replicate}
 use borrow.Author.Tests.{eqb-true, eqb-false, leb-true, ltb-true, ne-eqb, le-leb, lt-ltb}
+use Rattle.records.proofs.Tests.{by-test}
 use Rattle.events.specs.declared.event.Event.{Event}
 use Rattle.events.specs.declared.event.Event.the-variants.{Start, Finish, Token, Error, NoEvent}
 use Rattle.events.specs.Event.{encode, decode, eventsOf, wordsOf, tombstone}
 
 pub double-suc : (i : ℕ) → 2 * suc i ≡ suc (suc (2 * i))
 double-suc i = omega arith
-
--- by the test of a `cond`
-pub by-test : {A : Type 0} (P : A → Type 0) (t : Bool) (x y : A) → (t ≡ true → P x) → (t ≡ false → P y) → P (cond t x y)
-by-test P true x y f g = f refl
-by-test P false x y f g = g refl
 
 -- an event whose numbers are in their ranges
 unfoldable pub Sound : Event → Type 0

@@ -9,12 +9,13 @@ use lib.ListN.{length, getD, take, drop, set, length-set, length-append, length-
 use lib.Seq.{getD-drop, drop-drop, take-add, drop-set-lt, take-suc-set}
 use Rattle.events.specs.declared.event.Event.{Event}
 use Rattle.events.specs.declared.event.Event.the-variants.{Start, Finish, Token, Error, NoEvent}
-use Rattle.events.specs.declared.output.Step.{Step}
+use Rattle.records.specs.declared.Step.{Step}
 use Rattle.events.specs.Event.{tombstone, isStart, distance}
-use Rattle.events.specs.Output.{bytes, over, Wrote}
+use Rattle.records.specs.Record.{bytes, over, Wrote}
 use Rattle.events.specs.Process.{placed, Followed, follow, enters, entered, chain, stepsOf, file}
 use Rattle.events.specs.Shape.{own, cost}
-use Rattle.events.proofs.Writes.{file-append, over-none, over-back, length-over, cost-le}
+use Rattle.records.proofs.Writes.{over-none, over-back, length-over}
+use Rattle.events.proofs.Writes.{file-append, cost-le}
 
 -- no distance: nothing is followed
 pub follow-none : (p : ℕ) (es : List Event) → follow p es 0 ≡ record { parents = []; left = es; panics = false }

@@ -9,11 +9,11 @@ use lib.Dec.{eqb}
 use lib.ListN.{length}
 use Rattle.events.specs.declared.event.Event.{Event}
 use Rattle.events.specs.declared.event.Event.the-variants.{Start, Finish, Token, Error, NoEvent}
-use Rattle.events.specs.declared.output.Step.{Step}
-use Rattle.events.specs.declared.output.Step.the-variants.{Enter as enter}
+use Rattle.records.specs.declared.Step.{Step}
+use Rattle.records.specs.declared.Step.the-variants.{Enter as enter}
 use Rattle.events.specs.Process.{Placed, placed, Parent, follow, enters, entered, turn, turns, process}
 use Rattle.events.specs.Shape.{isEnter, others, plain}
-use Rattle.events.proofs.Encoding.{by-test}
+use Rattle.records.proofs.Tests.{by-test}
 use Rattle.events.proofs.Running.{length-turn}
 
 others-append : (r s : List Placed) → others (r ++ s) ≡ others r ++ others s

@@ -11,8 +11,8 @@ use lib.ListN.{length, getD}
 use borrow.Author.Tests.{eq-eqb, ne-eqb, eqb-true, eqb-false}
 use Rattle.events.specs.declared.event.Event.{Event}
 use Rattle.events.specs.declared.event.Event.the-variants.{Start, Finish, Token, Error, NoEvent}
-use Rattle.events.specs.declared.output.Step.{Step}
-use Rattle.events.specs.declared.output.Step.the-variants.{Enter as enter, Leave as leave, Token as token, Error as error}
+use Rattle.records.specs.declared.Step.{Step}
+use Rattle.records.specs.declared.Step.the-variants.{Enter as enter, Leave as leave, Token as token, Error as error}
 use Rattle.events.specs.Process.{Placed, placed, Parent, follow, enters, entered, turn, turns, process, stepsOf}
 use Rattle.events.specs.Shape.{own, from, entersTombstone}
 use Rattle.events.proofs.Running.{length-turn}

@@ -12,11 +12,12 @@ use Rattle.events.specs.declared.event.Event.{Event}
 use Rattle.events.specs.declared.event.Event.the-variants.{Start, Finish, Token, Error, NoEvent}
 use Rattle.events.specs.declared.Next.the-variants.{Open, Fault}
 use Rattle.events.specs.Event.{decode, eventsOf, isStart, distance}
-use Rattle.events.specs.Output.{bytes}
+use Rattle.records.specs.Record.{bytes}
 use Rattle.events.specs.Check.{lands, next}
 use Rattle.events.specs.Shape.{cost}
 use Rattle.events.specs.Inside.{Say, tells, Traits}
-use Rattle.events.proofs.Encoding.{by-test, event-index}
+use Rattle.records.proofs.Tests.{by-test}
+use Rattle.events.proofs.Encoding.{event-index}
 use Rattle.events.proofs.Scans.{lands-index}
 
 -- ---- the table

@@ -12,15 +12,15 @@ use Rattle.events.specs.declared.Answer.{Answer}
 use Rattle.events.specs.declared.Answer.the-variants.{Done, TooLong, Faulty, NoRoom}
 use Rattle.events.specs.declared.event.Event.{Event}
 use Rattle.events.specs.declared.event.Event.the-variants.{Start, NoEvent}
-use Rattle.events.specs.declared.output.Step.the-variants.{Enter as enter}
+use Rattle.records.specs.declared.Step.the-variants.{Enter as enter}
 use Rattle.events.specs.Event.{eventsOf, wordsOf, tombstone}
-use Rattle.events.specs.Output.{over}
+use Rattle.records.specs.Record.{over}
 use Rattle.events.specs.Answer.{Numbers, says, numbers}
 use Rattle.events.specs.Check.{checked}
 use Rattle.events.specs.Process.{process, file, stepsOf}
 use Rattle.events.specs.Resolve.{ends, panics, settled, resolved}
 use Rattle.events.specs.Shape.{closes, from, need}
-use Rattle.events.proofs.Encoding.{by-test}
+use Rattle.records.proofs.Tests.{by-test}
 use Rattle.events.proofs.Writes.{own-kind, own-none}
 use Rattle.events.proofs.Running.{turns-left}
 use Rattle.events.proofs.Passing.{passed-scan, passed-sound}

@@ -14,7 +14,7 @@ use borrow.Author.Tests.{eq-eqb, ne-eqb}
 use Rattle.events.specs.declared.event.Event.{Event}
 use Rattle.events.specs.declared.event.Event.the-variants.{Start, Finish, Token, Error, NoEvent}
 use Rattle.events.specs.Event.{encode, decode}
-use Rattle.events.specs.Output.{bytes, over, Wrote}
+use Rattle.records.specs.Record.{bytes, over, Wrote}
 use Rattle.events.specs.Shape.{own, cost}
 use Rattle.events.specs.Inside.{Say, heads, le64, Laid}
 use Rattle.events.proofs.Encoding.{Sound, encode-decode}

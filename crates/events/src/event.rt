@@ -1,15 +1,15 @@
 // Events, and `process` of event.rs: their resolution into steps.
-use super::output::Step;
 use super::output::head_of;
-use super::output::put;
 use super::output::put_u64;
+use records::Step;
+use records::put;
 ghost use mathlib.Core.Path.{_≡_};
 ghost use mathlib.Core.Bool.{false};
 ghost use mathlib.Core.List.{_∷_, _++_};
 ghost use Prim.Native.Nat.{suc, _+_, _*_, _/_, _<_, _≤_};
 ghost use lib.ListN.{length, getD, take, set};
 ghost use Rattle.events.specs.Event.{decode, eventsOf, wordsOf, distance, tombstone};
-ghost use Rattle.events.specs.Output.{bytes, over, Wrote};
+ghost use Rattle.records.specs.Record.{bytes, over, Wrote};
 ghost use Rattle.events.specs.Process.{chain, entered, turnAt, process, file};
 ghost use Rattle.events.specs.Shape.{own, cost};
 ghost use Rattle.events.specs.Inside.{Say, Laid};

@@ -1,68 +1,9 @@
-// Steps, and their records in a step file: payload length, record kind, payload, little-endian.
+// A wide write: the head of an event's record, and eight bytes at once.
 ghost use mathlib.Core.Path.{_≡_};
 ghost use Prim.Native.Nat.{_+_, _/_, _%_, _≤_};
-ghost use mathlib.Core.List.{[], _∷_, _++_};
 ghost use lib.ListN.{length, getD};
-ghost use Rattle.events.specs.Output.{le16, recordOf, over, Wrote};
+ghost use Rattle.records.specs.Record.{over};
 ghost use Rattle.events.specs.Inside.{heads, le64};
-
-// A tree step. The numbers are a kind; a kind and the raw count; a code and its argument.
-pub enum Step {
-    Enter(u16),
-    Leave,
-    Token(u16, u8),
-    Error(u16, u16),
-}
-
-// Writes a number at a place, in two bytes; the place past it. So do the others below, with what they write.
-fn put_u16(out: &mut [u8], at: usize, n: u16) -> usize
-    requires { ⌜ at + 2 ≤ length (now out) ⌝ }
-    ensures { λ r. ⌜ Wrote (now (out .entry)) at (le16 n) r (now (out .exit)) ⌝ }
-{
-    out[at] = (n % 256) as u8;
-    out[at + 1] = (n / 256) as u8;
-    at + 2
-}
-
-fn put_u8(out: &mut [u8], at: usize, n: u8) -> usize
-    requires { ⌜ at + 1 ≤ length (now out) ⌝ }
-    ensures { λ r. ⌜ Wrote (now (out .entry)) at (n ∷ []) r (now (out .exit)) ⌝ }
-{
-    out[at] = n;
-    at + 1
-}
-
-fn put_head(out: &mut [u8], at: usize, size: u16, kind: u16) -> usize
-    requires { ⌜ at + 4 ≤ length (now out) ⌝ }
-    ensures { λ r. ⌜ Wrote (now (out .entry)) at (le16 size ++ le16 kind) r (now (out .exit)) ⌝ }
-{
-    let p = put_u16(out, at, size);
-    put_u16(out, p, kind)
-}
-
-// A step's record.
-pub(crate) fn put(out: &mut [u8], at: usize, s: Step) -> usize
-    requires { ⌜ at + length (recordOf s) ≤ length (now out) ⌝ }
-    ensures { λ r. ⌜ Wrote (now (out .entry)) at (recordOf s) r (now (out .exit)) ⌝ }
-{
-    match s {
-        Step::Enter(kind) => {
-            let p = put_head(out, at, 2, 1);
-            put_u16(out, p, kind)
-        }
-        Step::Leave => put_head(out, at, 0, 2),
-        Step::Token(kind, count) => {
-            let p = put_head(out, at, 3, 3);
-            let q = put_u16(out, p, kind);
-            put_u8(out, q, count)
-        }
-        Step::Error(code, argument) => {
-            let p = put_head(out, at, 4, 4);
-            let q = put_u16(out, p, code);
-            put_u16(out, q, argument)
-        }
-    }
-}
 
 // The first four bytes of the record of an event, by its first word: payload length and record kind.
 pub(crate) fn head_of(a: u32) -> u32

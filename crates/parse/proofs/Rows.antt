@@ -18,12 +18,12 @@ use Rattle.grammar.specs.Expressions.{typeName, marker, lacksExpr, assigned, no
 use Rattle.grammar.specs.Items.{break, continue, end, filepathR, defcalgrammar, include, skipToSemicolon, version, versionString, ioType, qubitEnd, declares, switchCaseStmtRound, switchCaseStmt, ifStmt, whileStmt, forRest, forStmt, qubitDeclarationStmt, resetStmt, gateDefinition, signature, defcal, classicalDeclarationStmt, ioDeclarationStmt, defStmt, cal, barrier, delayStmt, aliasStmt, optItem, item, sourceFileContentsRound, sourceFileContents}
 use Rattle.grammar.specs.Entry.{counted, sourceFile, oneItem, oneExpression}
 use Rattle.events.specs.declared.event.Event.the-variants.{Start, Finish}
-use Rattle.events.specs.declared.output.Step.{Step}
-use Rattle.events.specs.declared.output.Step.the-variants.{Enter as enter, Leave as leave, Token as taken, Error as failed}
+use Rattle.records.specs.declared.Step.{Step}
+use Rattle.records.specs.declared.Step.the-variants.{Enter as enter, Leave as leave, Token as taken, Error as failed}
 use Rattle.events.specs.Answer as A
 use Rattle.events.specs.Event.{encode, eventsOf, wordsOf, tombstone}
 use Rattle.events.specs.Event as E
-use Rattle.events.specs.Output.{bytes}
+use Rattle.records.specs.Record.{bytes}
 use Rattle.events.specs.Check.{next, scan, checked}
 use Rattle.events.specs.Process.{follow, entered, turn, turns, process, stepsOf}
 use Rattle.events.specs.Resolve.{resolved}

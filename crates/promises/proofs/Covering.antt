@@ -7,8 +7,8 @@ use native.Mathlib.Omega.{arith}
 use Rattle.runtime.specs.Input.{Env}
 use Rattle.runtime.specs.Event.{Event, Event.start, Event.finish, Event.token, Event.error, Event.none}
 use Rattle.runtime.specs.Cover.{Covers}
-use Rattle.events.specs.declared.output.Step.{Step}
-use Rattle.events.specs.declared.output.Step.the-variants.{Enter as enter, Leave as leave, Token as taken, Error as failed}
+use Rattle.records.specs.declared.Step.{Step}
+use Rattle.records.specs.declared.Step.the-variants.{Enter as enter, Leave as leave, Token as taken, Error as failed}
 use Rattle.events.specs.Process.{Placed, process, stepsOf}
 use Rattle.events.specs.Shape.{isEnter, others, plain}
 use Rattle.events.proofs.Order.{in-order}

@@ -3,8 +3,8 @@ use mathlib.Core.Path.{_≡_, refl}
 use mathlib.Core.Bool.{Bool, true, false}
 use mathlib.Core.List.{List, [], _∷_, map}
 use Prim.Native.Nat.{ℕ}
-use Rattle.events.specs.declared.output.Step.{Step}
-use Rattle.events.specs.declared.output.Step.the-variants.{Enter as enter, Leave as leave, Token as token, Error as error}
+use Rattle.records.specs.declared.Step.{Step}
+use Rattle.records.specs.declared.Step.the-variants.{Enter as enter, Leave as leave, Token as token, Error as error}
 use Rattle.promises.specs.Promised.{closesLast, rawSum}
 
 -- behind the enter of a root: one tree; a second root; a token outside; a node that stays open; steps that end below

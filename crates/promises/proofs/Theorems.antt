@@ -18,9 +18,9 @@ use Rattle.runtime.proofs.Runs.{inside-run}
 use Rattle.runtime.proofs.Covered.{covered}
 use Rattle.grammar.specs.Operators.{tableOf}
 use Rattle.events.specs.declared.event.Event.the-variants.{Start, Finish, NoEvent}
-use Rattle.events.specs.declared.output.Step.the-variants.{Enter as enter}
+use Rattle.records.specs.declared.Step.the-variants.{Enter as enter}
 use Rattle.events.specs.Event.{eventsOf, wordsOf, tombstone}
-use Rattle.events.specs.Output.{over}
+use Rattle.records.specs.Record.{over}
 use Rattle.events.specs.Answer.{Numbers, says}
 use Rattle.events.specs.Check.{checked}
 use Rattle.events.specs.Process.{process, stepsOf, file}

@@ -9,8 +9,8 @@ use borrow.Author.Tests.{ne-eqb}
 use Rattle.runtime.proofs.Kept.{apart}
 use Rattle.events.specs.declared.event.Event.{Event}
 use Rattle.events.specs.declared.event.Event.the-variants.{Start, Finish, Token, Error, NoEvent}
-use Rattle.events.specs.declared.output.Step.{Step}
-use Rattle.events.specs.declared.output.Step.the-variants.{Enter as enter, Leave as leave, Token as taken, Error as failed}
+use Rattle.records.specs.declared.Step.{Step}
+use Rattle.records.specs.declared.Step.the-variants.{Enter as enter, Leave as leave, Token as taken, Error as failed}
 use Rattle.events.specs.Event.{distance}
 use Rattle.events.specs.Check.{lands, scan}
 use Rattle.events.specs.Process.{Parent, follow, entered, turn, turns, stepsOf}

@@ -6,8 +6,8 @@ use Prim.Native.Nat.{ℕ, zero, suc, _+_, _*_}
 use lib.ListN.{take}
 use Rattle.runtime.specs.Input.{Env}
 use Rattle.runtime.specs.Cover.{Stands}
-use Rattle.events.specs.declared.output.Step.{Step}
-use Rattle.events.specs.declared.output.Step.the-variants.{Enter as enter, Leave as leave, Token as token, Error as error}
+use Rattle.records.specs.declared.Step.{Step}
+use Rattle.records.specs.declared.Step.the-variants.{Enter as enter, Leave as leave, Token as token, Error as error}
 use Rattle.events.specs.Event.{eventsOf}
 use Rattle.events.specs.Process.{process, stepsOf}
 use Rattle.parse.specs.Parse.{Outcome}

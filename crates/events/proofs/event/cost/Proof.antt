@@ -3,7 +3,7 @@
 use mathlib.Core.Path.{_∙_, sym, ap}
 use borrow.Author.Tests.{eq-eqb, ne-eqb}
 use borrow.Author.Needs.{needs}
-use Rattle.events.specs.Output.{bytes}
+use Rattle.records.specs.Record.{bytes}
 use Rattle.events.specs.Shape.{cost}
 use Rattle.events.proofs.event.cost.Statement.{statement}
 use Rattle.events.proofs.event.cost.Tie as tie

@@ -1,10 +1,10 @@
--- `events::output::put_head` meets its contract: two numbers, one behind the other.
+-- `records::put_head` meets its contract: two numbers, one behind the other.
 -- Assumes nothing.
 use native.Mathlib.Omega.{arith}
 use borrow.Author.Needs.{needs}
-use Rattle.events.proofs.Writes.{wrote-then}
-use Rattle.events.proofs.output.put_head.Statement.{statement}
-use Rattle.events.proofs.output.put_head.Tie as tie
+use Rattle.records.proofs.Writes.{wrote-then}
+use Rattle.records.proofs.put_head.Statement.{statement}
+use Rattle.records.proofs.put_head.Tie as tie
 
 put-u16-requires : tie.Need-put-u16-requires
 put-u16-requires c κs = search needs

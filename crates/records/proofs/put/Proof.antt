@@ -1,15 +1,15 @@
--- `events::output::put` meets its contract: each record is written part by part, one behind the other.
+-- `records::put` meets its contract: each record is written part by part, one behind the other.
 -- Assumes nothing.
 use Prim.Native.Nat.{ℕ, _+_, _≤_}
 use native.Mathlib.Omega.{arith}
 use mathlib.Core.Path.{_≡_}
 use lib.ListN.{length}
 use borrow.Author.Needs.{needs}
-use Rattle.events.specs.declared.output.Step.{Step}
-use Rattle.events.specs.Output.{recordOf}
-use Rattle.events.proofs.Writes.{wrote-then}
-use Rattle.events.proofs.output.put.Statement.{statement}
-use Rattle.events.proofs.output.put.Tie as tie
+use Rattle.records.specs.declared.Step.{Step}
+use Rattle.records.specs.Record.{recordOf}
+use Rattle.records.proofs.Writes.{wrote-then}
+use Rattle.records.proofs.put.Statement.{statement}
+use Rattle.records.proofs.put.Tie as tie
 
 -- the room for a step that is t
 room : (s t : Step) (at n : ℕ) → s ≡ t → at + length (recordOf s) ≤ n → at + length (recordOf t) ≤ n

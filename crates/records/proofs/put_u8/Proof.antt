@@ -1,11 +1,11 @@
--- `events::output::put_u8` meets its contract.
+-- `records::put_u8` meets its contract.
 -- Assumes nothing.
 use native.Mathlib.Omega.{arith}
 use mathlib.Core.List.{[], _∷_}
 use lib.Seq.{sets-eq}
 use borrow.Author.Needs.{needs}
-use Rattle.events.proofs.output.put_u8.Statement.{statement}
-use Rattle.events.proofs.output.put_u8.Tie as tie
+use Rattle.records.proofs.put_u8.Statement.{statement}
+use Rattle.records.proofs.put_u8.Tie as tie
 
 slice-write-out : tie.Need-slice-write-out
 slice-write-out c = search needs

@@ -1,13 +1,13 @@
--- `events::output::put_u16` meets its contract: two stores, one behind the other.
+-- `records::put_u16` meets its contract: two stores, one behind the other.
 -- Assumes nothing.
 use native.Mathlib.Omega.{arith}
 use native.Mathlib.Numerals.{add-one}
 use lib.ListN.{length-set}
 use lib.Seq.{sets-eq}
 use borrow.Author.Needs.{needs}
-use Rattle.events.specs.Output.{le16}
-use Rattle.events.proofs.output.put_u16.Statement.{statement}
-use Rattle.events.proofs.output.put_u16.Tie as tie
+use Rattle.records.specs.Record.{le16}
+use Rattle.records.proofs.put_u16.Statement.{statement}
+use Rattle.records.proofs.put_u16.Tie as tie
 
 cast-out : tie.Need-cast-out
 cast-out c = search needs

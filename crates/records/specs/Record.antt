@@ -1,10 +1,10 @@
--- Step files (docs/RULES.md, section 7; the steps are those of output.rs).
-use Prim.Native.Nat.{ℕ, _+_, _/_, _%_}
+-- Records of a step file (docs/RULES.md, section 7; the steps are those of output.rs).
+use Prim.Native.Nat.{ℕ, _+_, _/_, _%_, _≤_, _<_}
 use mathlib.Core.Path.{_≡_}
 use mathlib.Core.List.{List, [], _∷_, _++_}
 use lib.ListN.{length, take, drop}
-use Rattle.events.specs.declared.output.Step.{Step}
-use Rattle.events.specs.declared.output.Step.the-variants.{Enter, Leave, Token, Error}
+use Rattle.records.specs.declared.Step.{Step}
+use Rattle.records.specs.declared.Step.the-variants.{Enter, Leave, Token, Error}
 
 -- a number in two bytes, little-endian
 abbrev pub le16 : ℕ → List ℕ
@@ -23,6 +23,17 @@ recordOf (Error c x) = framed 4 (le16 c ++ le16 x)
 unfoldable pub bytes : List Step → List ℕ
 bytes [] = []
 bytes (s ∷ ss) = recordOf s ++ bytes ss
+
+-- a step whose numbers are those that a record can hold: 16 bits for a kind, a code and an argument, 1 to 3 for a raw count
+abbrev pub Sound : Step → Type 0
+Sound (Enter k) = k < 65536
+Sound Leave = Unit {0}
+Sound (Token k n) = (k < 65536) × (0 < n) × (n ≤ 3)
+Sound (Error c x) = (c < 65536) × (x < 65536)
+
+abbrev pub Sounds : List Step → Type 0
+Sounds [] = Unit {0}
+Sounds (s ∷ ss) = Sound s × Sounds ss
 
 -- a list with vs written over what stands from place i on
 abbrev pub over : List ℕ → ℕ → List ℕ → List ℕ

@@ -1,0 +1,4 @@
+pub mod Fronts
+pub mod Inverse
+pub mod Nestings
+pub mod Walks
