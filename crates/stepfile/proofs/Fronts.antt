@@ -8,7 +8,7 @@ use mathlib.Core.List.{List, []}
 use lib.Dec.{eqb, ltb}
 use lib.ListN.{length, getD, drop, length-drop, drop-of-length-le}
 use lib.Seq.{getD-drop}
-use borrow.Author.Tests.{eq-eqb, ne-eqb, lt-ltb, le-ltb, eqb-true}
+use borrow.Author.Tests.{ne-eqb, lt-ltb, le-ltb, eqb-true, eqb-false, ltb-true, ltb-false}
 use Rattle.records.specs.declared.Step.the-variants.{Enter, Leave, Token, Error}
 use Rattle.records.proofs.Tests.{by-test}
 use Rattle.stepfile.specs.declared.Found.{Found}
@@ -43,17 +43,27 @@ module _ (bs : List ℕ) where
   high-count h = rw (ne-eqb (getD bs 6 0) 0 (λ z. omega arith), lt-ltb 3 (getD bs 6 0) h)
 
   -- none of the four
-  pub no-record : (kind size : ℕ) → (kind ≡ 1 → size ≡ 2 → ⊥) → (kind ≡ 2 → size ≡ 0 → ⊥) → (kind ≡ 3 → size ≡ 3 → ⊥) → (kind ≡ 4 → size ≡ 4 → ⊥)
+  pub no-record : (kind size : ℕ) → (kind ≡ 1 → size ≡ 2 → ⊥) → (kind ≡ 2 → size ≡ 0 → ⊥)
+      → (kind ≡ 3 → size ≡ 3 → 0 < getD bs 6 0 → getD bs 6 0 ≤ 3 → ⊥) → (kind ≡ 4 → size ≡ 4 → ⊥)
       → stepOf kind size bs ≡ Unsound
   unfolding stepOf
   no-record kind size a b c d =
-      by-test (λ f. f ≡ Unsound) (eqb kind 1) _ _ (λ k. other 2 _ (a (eqb-true kind 1 k))) (λ _.
-      by-test (λ f. f ≡ Unsound) (eqb kind 2) _ _ (λ k. other 0 _ (b (eqb-true kind 2 k))) (λ _.
-      by-test (λ f. f ≡ Unsound) (eqb kind 3) _ _ (λ k. other 3 _ (c (eqb-true kind 3 k))) (λ _.
-      by-test (λ f. f ≡ Unsound) (eqb kind 4) _ _ (λ k. other 4 _ (d (eqb-true kind 4 k))) (λ _. refl))))
+      by-test Is (eqb kind 1) _ _ (λ k. other 2 _ (a (eqb-true kind 1 k))) (λ _.
+      by-test Is (eqb kind 2) _ _ (λ k. other 0 _ (b (eqb-true kind 2 k))) (λ _.
+      by-test Is (eqb kind 3) _ _
+      (λ k. by-test Is (eqb size 3) _ _
+      (λ z. by-test Is (eqb n 0) _ _ (λ _. refl) (λ m. by-test Is (ltb 3 n) _ _ (λ _. refl) (λ l. absurd (c (eqb-true kind 3 k) (eqb-true size 3 z) (omega (arith, eqb-false n 0 m)) (ltb-false 3 n l)))))
+      (λ _. refl))
+      (λ _. by-test Is (eqb kind 4) _ _ (λ k. other 4 _ (d (eqb-true kind 4 k))) (λ _. refl))))
     where
-      other : (n : ℕ) (f : Found) → (size ≡ n → ⊥) → cond (eqb size n) f Unsound ≡ Unsound
-      other n f z = rw (ne-eqb size n z)
+      n : ℕ
+      n = getD bs 6 0
+
+      Is : Found → Type 0
+      Is f = f ≡ Unsound
+
+      other : (m : ℕ) (f : Found) → (size ≡ m → ⊥) → cond (eqb size m) f Unsound ≡ Unsound
+      other m f z = rw (ne-eqb size m z)
 
 -- ---- the record at a place, by its head
 
@@ -89,7 +99,7 @@ module _ (l : List ℕ) (at head : ℕ) (is : Head l at head) where
       (no-record (drop at l) (two l (at + 2)) (two l at)
       (λ k s. a (omega (arith, is .kind, is .size)))
       (λ k s. b (omega (arith, is .kind, is .size)))
-      (λ k s. c (omega (arith, is .kind, is .size)))
+      (λ k s _ _. c (omega (arith, is .kind, is .size)))
       (λ k s. d (omega (arith, is .kind, is .size))))
 
 -- ---- the front of what is left at a place

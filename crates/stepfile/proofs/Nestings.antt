@@ -1,5 +1,5 @@
 -- The nodes open past a record, and the end of a walk, by what the code tests. Assumes nothing.
-use Prim.Native.Nat.{ℕ, zero, suc, _+_, _-_, _≤_}
+use Prim.Native.Nat.{ℕ, zero, suc, _-_, _≤_, _<_}
 use native.Mathlib.Omega.{arith}
 use mathlib.Core.Path.{_≡_, refl, sym, ap, _∙_}
 use Rattle.records.specs.declared.Step.{Step}
@@ -69,3 +69,10 @@ unfolding ended
 ended-open at zero o n = refl
 ended-open at (suc r) zero n = absurd (n refl)
 ended-open at (suc r) (suc o) n = refl
+
+-- a good end has a record behind it and no node open
+pub ended-good : (at r o : ℕ) → ended at r o .code ≡ 0 → (0 < r) × (o ≡ 0)
+unfolding ended
+ended-good at zero o e = absurd (omega arith)
+ended-good at (suc r) zero e = (omega arith, refl)
+ended-good at (suc r) (suc o) e = absurd (omega arith)

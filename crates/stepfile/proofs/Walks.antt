@@ -133,6 +133,12 @@ read-back (suc n) (s ∷ ss) more h k =
     let l : length (bytes ss ++ more) ≤ n = rw b at (shorter bs s n e (rw append-assoc at k)) in
     rw (append-assoc, e, b, read-back n ss more (h .1) l)
 
+pub walked-first : (s : Step) (more : List ℕ) → Sounds (s ∷ []) → walked (recordOf s ++ more) ≡ record { steps = s ∷ walked more .steps; rest = walked more .rest }
+unfolding bytes
+walked-first s more h =
+    let q : bytes (s ∷ []) ++ more ≡ recordOf s ++ more = ap (λ (l : List ℕ). l ++ more) (append-nil (recordOf s)) in
+    rw q at (read-back (length (bytes (s ∷ []) ++ more)) (s ∷ []) more h (omega arith))
+
 pub reads-steps : (ss : List Step) → Sounds ss → walked (bytes ss) ≡ record { steps = ss; rest = [] }
 unfolding stepsIn
 reads-steps ss h =

@@ -5,3 +5,4 @@ pub mod File
 pub mod OneByOne
 pub mod Good
 pub mod Inside
+pub mod Examples
