@@ -7,7 +7,7 @@ ghost use Prim.Native.Nat.{_+_, _^_, _≤_, _<_};
 ghost use lib.ListN.{length, drop};
 ghost use Rattle.records.specs.Record.{recordOf};
 ghost use Rattle.stepfile.specs.Front.{two, stepOf, front, taken, behind};
-ghost use Rattle.stepfile.specs.Answer.{numbers};
+ghost use Rattle.stepfile.specs.Answer.{numbers, numberOf};
 ghost use Rattle.stepfile.specs.Nesting.{after, nest};
 ghost use Rattle.stepfile.specs.File.{ended, fileRead};
 ghost use Rattle.stepfile.specs.Inside.{Head, Fits, passed, Turned};
@@ -22,6 +22,20 @@ pub enum Found {
     Cut,
     // an unknown kind, a length that is not the kind's, or a raw count that is none of 1 to 3
     Unsound,
+}
+
+impl Found {
+    // The number of docs/RULES.md: a step and the end are none of its refusals.
+    pub fn code(self) -> u32
+        ensures { λ r. ⌜ r ≡ numberOf self ⌝ }
+    {
+        match self {
+            Found::Sound(_) => 0,
+            Found::End => 0,
+            Found::Cut => 11,
+            Found::Unsound => 12,
+        }
+    }
 }
 
 // What a whole file is; `numbers` in specs/Answer has the number, place and records of docs/RULES.md, section 3, for each.
