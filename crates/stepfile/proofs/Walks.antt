@@ -33,6 +33,12 @@ four Leave = omega arith
 four (Token k n) = omega arith
 four (Error c x) = omega arith
 
+-- a step that stands at a place lies in the file: for who walks by places
+pub step-inside : (l : List ℕ) (at : ℕ) (f : Found) (s : Step) → f ≡ front (drop at l) → f ≡ Sound s → (at + length (recordOf s) ≤ length l) × (at + 4 ≤ at + length (recordOf s))
+step-inside l at f s e q =
+    let h = step-fits (drop at l) s (sym e ∙ q) in
+    (omega (arith, h, four s, length-drop at l), omega (arith, four s))
+
 -- what is left behind a step is shorter
 pub shorter : (bs : List ℕ) (s : Step) (n : ℕ) → front bs ≡ Sound s → length bs ≤ suc n → length (behind bs) ≤ n
 shorter bs s n e h = rw (behind-step bs s e) (omega (arith, four s, length-drop (length (recordOf s)) bs))

@@ -1,0 +1,87 @@
+// Steps as text on standard output, a line each (docs/RULES.md, section 9), and what a file or a list is refused with.
+use records::Step;
+use records::size;
+use stepfile::Found;
+use stepfile::step_at;
+ghost use Prim.Native.Nat.{_≤_};
+ghost use lib.ListN.{length};
+
+fn put_number(n: u64) {
+    io::write_all(1, b" ");
+    io::print_decimal(1, n);
+}
+
+// A step's line.
+fn put_step(s: Step) {
+    match s {
+        Step::Enter(kind) => {
+            io::write_all(1, b"enter");
+            put_number(kind as u64);
+        }
+        Step::Leave => {
+            io::write_all(1, b"leave");
+        }
+        Step::Token(kind, count) => {
+            io::write_all(1, b"token");
+            put_number(kind as u64);
+            put_number(count as u64);
+        }
+        Step::Error(code, argument) => {
+            io::write_all(1, b"error");
+            put_number(code as u64);
+            put_number(argument as u64);
+        }
+    }
+    io::write_all(1, b"\n");
+}
+
+// How many steps a file has from its front on; each is shown where that is asked for.
+fn walk(file: &[u8], shown: bool) -> u64 {
+    let mut at = 0;
+    let mut n = 0;
+    loop {
+        match step_at(file, at) {
+            Found::Sound(s) => {
+                if shown {
+                    put_step(s);
+                }
+                at += size(s);
+                n += 1;
+            }
+            Found::End => {
+                return n;
+            }
+            Found::Cut => {
+                return n;
+            }
+            Found::Unsound => {
+                return n;
+            }
+        }
+    }
+}
+
+// The steps of a file: how many, and each.
+pub fn put_steps(file: &[u8]) {
+    io::write_all(1, b"steps");
+    put_number(walk(file, false));
+    io::write_all(1, b"\n");
+    walk(file, true);
+}
+
+pub fn put_refused(number: u32, place: usize) {
+    io::write_all(1, b"refused");
+    put_number(number as u64);
+    put_number(place as u64);
+    io::write_all(1, b"\n");
+}
+
+// The steps of a good file; of another one nothing but why it is refused, and where.
+pub fn show_file(file: &[u8]) {
+    let a = stepfile::read_file(file);
+    if a.code() == 0 {
+        put_steps(file);
+    } else {
+        put_refused(a.code(), a.place());
+    }
+}
