@@ -5,7 +5,8 @@ use mathlib.Core.List.{List, [], _∷_, map}
 use Prim.Native.Nat.{ℕ}
 use Rattle.records.specs.declared.Step.{Step}
 use Rattle.records.specs.declared.Step.the-variants.{Enter as enter, Leave as leave, Token as token, Error as error}
-use Rattle.promises.specs.Promised.{closesLast, rawSum}
+use Rattle.stepfile.specs.Nesting.{nest, nests}
+use Rattle.promises.specs.Promised.{rawSum}
 
 -- behind the enter of a root: one tree; a second root; a token outside; a node that stays open; steps that end below
 rest : List (List Step)
@@ -17,8 +18,8 @@ rest =
     ∷ (leave ∷ leave ∷ [])
     ∷ []
 
-one-tree : map (closesLast 1) rest ≡ true ∷ false ∷ false ∷ false ∷ false ∷ []
-unfolding rest closesLast
+one-tree : map (nests 1 1) rest ≡ true ∷ false ∷ false ∷ false ∷ false ∷ []
+unfolding rest nests nest
 one-tree = refl
 
 sums : map rawSum rest ≡ 3 ∷ 0 ∷ 1 ∷ 0 ∷ 0 ∷ []

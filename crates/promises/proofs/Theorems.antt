@@ -20,7 +20,9 @@ use Rattle.grammar.specs.Operators.{tableOf}
 use Rattle.events.specs.declared.event.Event.the-variants.{Start, Finish, NoEvent}
 use Rattle.records.specs.declared.Step.the-variants.{Enter as enter}
 use Rattle.events.specs.Event.{eventsOf, wordsOf, tombstone}
-use Rattle.records.specs.Record.{over}
+use Rattle.records.specs.Record.{bytes, over}
+use Rattle.stepfile.specs.Answer as S
+use Rattle.stepfile.specs.File.{fileRead}
 use Rattle.events.specs.Answer.{Numbers, says}
 use Rattle.events.specs.Check.{checked}
 use Rattle.events.specs.Process.{process, stepsOf, file}
@@ -43,6 +45,7 @@ use Rattle.promises.proofs.Done.{kinds-small, orderly, fit-new, begins,
 use Rattle.promises.proofs.Covering.{cover-steps, cover-sum}
 use Rattle.promises.proofs.Tree.{Chain, rooted}
 use Rattle.promises.proofs.Root.{Around, source-around}
+use Rattle.promises.proofs.Written.{rooted-nests, file-good}
 
 -- no marker is open
 abbrev pub AllShut : Marks → Type 0
@@ -139,6 +142,10 @@ module _ (l : Lent) (done : parsed l .answer .code ≡ 0) where
             (sym source)
             (source-around (env (l .kinds) (l .joints)) (bounded l done) (tableOf (l .mode)) (l .room))
             (ended l done .0)
+
+    -- So its step file is good: the whole-file call says its bytes and its steps.
+    pub source-good : fileRead (bytes (stepsIn (parsed l))) ≡ S.says 0 (length (bytes (stepsIn (parsed l)))) (length (stepsIn (parsed l)))
+    source-good = file-good (handed (parsed l)) (rooted-nests SOURCE-FILE (stepsIn (parsed l)) source-rooted)
 
 -- Nothing is left open: from no marker an entry's acts end, whatever is seen on the way, with completed markers alone. Each other one was
 -- abandoned, or extended to a completed one.

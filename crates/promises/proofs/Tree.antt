@@ -18,7 +18,8 @@ use Rattle.events.specs.Shape.{closes}
 use Rattle.events.proofs.Running.{length-turn}
 use Rattle.events.proofs.Passing.{lands-follow}
 use Rattle.events.proofs.Depth.{closes-turns}
-use Rattle.promises.specs.Promised.{closesLast, Rooted}
+use Rattle.stepfile.specs.Nesting.{nest, nests}
+use Rattle.promises.specs.Promised.{Rooted}
 
 -- each distance lands on a start behind it
 abbrev pub Chain : List Event → Type 0
@@ -80,15 +81,15 @@ steps-finish (suc n) p (e ∷ es) l c =
     rw (r .0, r .1, map-append, map-append)
     (ap (λ (ss : List Step). stepsOf (turn p e es .steps) ++ ss) (steps-finish n (suc p) (turn p e es .left) (omega (arith, length-turn p e es)) (chain-turn p e es c)) ∙ sym (append-assoc (stepsOf (turn p e es .steps)) _ (leave ∷ [])))
 
-closes-last : (ss : List Step) (o : ℕ) → closes o ss ≡ true → closesLast (suc o) (ss ++ leave ∷ []) ≡ true
-unfolding closes closesLast
-closes-last [] zero h = refl
-closes-last [] (suc o) h = apart h
-closes-last (enter k ∷ ss) o h = closes-last ss (suc o) h
-closes-last (leave ∷ ss) zero h = apart h
-closes-last (leave ∷ ss) (suc o) h = closes-last ss o h
-closes-last (taken k n ∷ ss) o h = closes-last ss o h
-closes-last (failed c a ∷ ss) o h = closes-last ss o h
+closes-last : (ss : List Step) (r o : ℕ) → closes o ss ≡ true → nests (suc r) (suc o) (ss ++ leave ∷ []) ≡ true
+unfolding closes nests nest
+closes-last [] r zero h = refl
+closes-last [] r (suc o) h = apart h
+closes-last (enter k ∷ ss) r o h = closes-last ss (suc r) (suc o) h
+closes-last (leave ∷ ss) r zero h = apart h
+closes-last (leave ∷ ss) r (suc o) h = closes-last ss (suc r) o h
+closes-last (taken k n ∷ ss) r o h = closes-last ss (suc r) o h
+closes-last (failed c a ∷ ss) r o h = closes-last ss (suc r) o h
 
 first-alone : (p k : ℕ) (es : List Event) → (k ≡ 0 → ⊥) → (stepsOf (turn p (Start k 0) es .steps) ≡ enter k ∷ []) × (turn p (Start k 0) es .left ≡ es)
 unfolding turn follow entered
@@ -102,5 +103,5 @@ rooted k es n c h =
     record {
       rest = stepsOf (turns (length es) 1 es .steps) ++ leave ∷ [];
       first = rw (map-append, f .0, f .1) (ap (λ (ss : List Step). enter k ∷ ss) (steps-finish (length es) 1 es refl c));
-      whole = closes-last (stepsOf (turns (length es) 1 es .steps)) 0 (closes-turns (length es) 1 es 0 0 refl h);
+      whole = closes-last (stepsOf (turns (length es) 1 es .steps)) 0 0 (closes-turns (length es) 1 es 0 0 refl h);
     }

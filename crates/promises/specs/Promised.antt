@@ -1,6 +1,6 @@
 -- What is promised of the steps of a parse: that they cover tokens, and that they are one tree. Assumes nothing: these are definitions.
 use mathlib.Core.Path.{_≡_}
-use mathlib.Core.Bool.{Bool, true, false}
+use mathlib.Core.Bool.{true}
 use mathlib.Core.List.{List, [], _∷_}
 use Prim.Native.Nat.{ℕ, zero, suc, _+_, _*_}
 use lib.ListN.{take}
@@ -10,6 +10,7 @@ use Rattle.records.specs.declared.Step.{Step}
 use Rattle.records.specs.declared.Step.the-variants.{Enter as enter, Leave as leave, Token as token, Error as error}
 use Rattle.events.specs.Event.{eventsOf}
 use Rattle.events.specs.Process.{process, stepsOf}
+use Rattle.stepfile.specs.Nesting.{nests}
 use Rattle.parse.specs.Parse.{Outcome}
 
 -- the words that a parse hands out, and the steps that they resolve to
@@ -42,22 +43,8 @@ unfoldable pub rawSum : List Step → ℕ
 rawSum [] = 0
 rawSum (s ∷ ss) = rawOf s + rawSum ss
 
--- with o nodes open, the steps leave the last of them with the last step and not before
-abbrev isEnd : List Step → Bool
-isEnd [] = true
-isEnd (s ∷ ss) = false
-
-unfoldable pub closesLast : ℕ → List Step → Bool
-closesLast o [] = false
-closesLast o (enter k ∷ ss) = closesLast (suc o) ss
-closesLast o (token k n ∷ ss) = closesLast o ss
-closesLast o (error c a ∷ ss) = closesLast o ss
-closesLast zero (leave ∷ ss) = false
-closesLast (suc zero) (leave ∷ ss) = isEnd ss
-closesLast (suc (suc o)) (leave ∷ ss) = closesLast (suc o) ss
-
--- one tree whose root is a node of a kind
+-- One tree whose root is a node of a kind: behind its enter, the steps leave the last node that is open with the last step, and not before.
 pub record Rooted (k : ℕ) (ss : List Step) : Type 0 where
   pub rest : List Step
   pub first : ss ≡ enter k ∷ rest
-  pub whole : closesLast 1 rest ≡ true
+  pub whole : nests 1 1 rest ≡ true

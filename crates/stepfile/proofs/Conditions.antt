@@ -62,7 +62,7 @@ sounds-split : (us vs : List Step) → Sounds (us ++ vs) → Sounds us × Sounds
 sounds-split [] vs h = (tt, h)
 sounds-split (u ∷ us) vs h = let q = sounds-split us vs (h .1) in ((h .0, q .0), q .1)
 
-sounds-join : (us vs : List Step) → Sounds us → Sounds vs → Sounds (us ++ vs)
+pub sounds-join : (us vs : List Step) → Sounds us → Sounds vs → Sounds (us ++ vs)
 sounds-join [] vs h k = k
 sounds-join (u ∷ us) vs h k = (h .0, sounds-join us vs (h .1) k)
 

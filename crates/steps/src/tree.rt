@@ -5,10 +5,11 @@ use crate::table::put_entry;
 use lines::out::put;
 use lines::out::put_number;
 use lines::out::put_text;
-use lines::show::byte;
-use lines::show::next;
-use lines::show::number;
-ghost use Prim.Native.Nat.{_+_, _*_, _≤_, _<_};
+use records::Step;
+use records::size;
+use stepfile::Found;
+use stepfile::step_at;
+ghost use Prim.Native.Nat.{_+_, _*_, _≤_};
 ghost use lib.ListN.{length};
 
 // Where a walk over the steps is: the nodes open, the tokens passed, the errors met.
@@ -95,63 +96,67 @@ fn put_error(
     put_kind(out, n, found(kinds, place) as u64)
 }
 
-// What stands in the line of the step at a place.
-fn put_record(out: &mut [u8], at: usize, kinds: &[u16], file: &[u8], i: usize, place: u64) -> usize
-    requires { ⌜ i < 1048576 ⌝ }
-{
-    let k = number(file, i + 2);
-    if k == 1 {
-        return put_kind(out, at, number(file, i + 4));
+// What stands in the line of a step; a leave has no line.
+fn put_what(out: &mut [u8], at: usize, kinds: &[u16], s: Step, place: u64) -> usize {
+    match s {
+        Step::Enter(kind) => put_kind(out, at, kind as u64),
+        Step::Leave => at,
+        Step::Token(kind, count) => put_token(out, at, kind as u64, count as u64, place),
+        Step::Error(code, argument) => {
+            put_error(out, at, kinds, code as u64, argument as u64, place)
+        }
     }
-    if k == 3 {
-        return put_token(out, at, number(file, i + 4), byte(file, i + 6), place);
-    }
-    put_error(
-        out,
-        at,
-        kinds,
-        number(file, i + 4),
-        number(file, i + 6),
-        place,
-    )
 }
 
-// The line of the step at a place; a leave has none.
-fn put_step(out: &mut [u8], at: usize, kinds: &[u16], file: &[u8], i: usize, w: Walk) -> usize
-    requires { ⌜ i < 1048576 ⌝ }
-{
-    if number(file, i + 2) == 2 {
+fn is_leave(s: Step) -> bool {
+    match s {
+        Step::Enter(_) => false,
+        Step::Leave => true,
+        Step::Token(_, _) => false,
+        Step::Error(_, _) => false,
+    }
+}
+
+// The line of a step; a leave has none.
+fn put_step(out: &mut [u8], at: usize, kinds: &[u16], s: Step, w: Walk) -> usize {
+    if is_leave(s) {
         return at;
     }
     let n = put_indent(out, at, w.depth);
-    let n = put_record(out, n, kinds, file, i, w.place);
+    let n = put_what(out, n, kinds, s, w.place);
     put(out, n, b'\n')
 }
 
-// The walk past the step at a place.
-fn walked(file: &[u8], i: usize, w: Walk) -> Walk
-    requires { ⌜ i < 1048576 ⌝ }
-    requires { ⌜ (w .depth ≤ i) × (w .place ≤ 255 * i) × (w .errors ≤ i) ⌝ }
-    ensures { λ r. ⌜ (r .depth ≤ i + 1) × (r .place ≤ 255 * i + 255) × (r .errors ≤ i + 1) ⌝ }
+// The walk past a step.
+fn walked(s: Step, w: Walk) -> Walk
+    requires { ⌜ (w .depth ≤ 1048576) × (w .place ≤ 255 * 1048576) × (w .errors ≤ 1048576) ⌝ }
+    ensures { λ r. ⌜ (r .depth ≤ w .depth + 1) × (r .place ≤ w .place + 255) × (r .errors ≤ w .errors + 1) ⌝ }
 {
-    let k = number(file, i + 2);
     let mut v = w;
-    if k == 1 {
-        v.depth = w.depth + 1;
-        return v;
-    }
-    if k == 2 {
-        if w.depth > 0 {
-            v.depth = w.depth - 1;
+    match s {
+        Step::Enter(_) => {
+            v.depth = w.depth + 1;
         }
-        return v;
+        Step::Leave => {
+            if w.depth > 0 {
+                v.depth = w.depth - 1;
+            }
+        }
+        Step::Token(_, count) => {
+            v.place = w.place + count as u64;
+        }
+        Step::Error(_, _) => {
+            v.errors = w.errors + 1;
+        }
     }
-    if k == 3 {
-        v.place = w.place + byte(file, i + 6);
-        return v;
-    }
-    v.errors = w.errors + 1;
     v
+}
+
+fn ended(at: usize, w: Walk) -> Shown {
+    Shown {
+        at,
+        errors: w.errors,
+    }
 }
 
 // Puts the tree of a step file of some tokens behind the first `at` bytes of the room.
@@ -165,13 +170,22 @@ pub fn put_tree(out: &mut [u8], at: usize, kinds: &[u16], file: &[u8]) -> Shown
         place: 0,
         errors: 0,
     };
-    while i < file.len() {
-        n = put_step(out, n, kinds, file, i, w);
-        w = walked(file, i, w);
-        i = next(file, i);
-    }
-    Shown {
-        at: n,
-        errors: w.errors,
+    loop {
+        match step_at(file, i) {
+            Found::Sound(s) => {
+                n = put_step(out, n, kinds, s, w);
+                w = walked(s, w);
+                i += size(s);
+            }
+            Found::End => {
+                return ended(n, w);
+            }
+            Found::Cut => {
+                return ended(n, w);
+            }
+            Found::Unsound => {
+                return ended(n, w);
+            }
+        }
     }
 }

@@ -34,22 +34,22 @@ size-requires : tie.Need-size-requires Inv-loop μ-loop
 size-requires c κs = search needs
 
 add-at : tie.Need-add-at Inv-loop μ-loop
-add-at c = 
+add-at c =
     let g = step-inside (c .before .before .before .before .before .before .before .before .args .file .now) (c .before .before .before .before .before .before .loop .at) _ _ (c .before .before .before .before .before .step-at .ensures) (c .before .before .before .s .given .1) in
     omega (arith, g .0, g .1, c .size .ensures)
 
 add-n : tie.Need-add-n Inv-loop μ-loop
-add-n c = 
+add-n c =
     let g = step-inside (c .before .before .before .before .before .before .before .before .args .file .now) (c .before .before .before .before .before .before .loop .at) _ _ (c .before .before .before .before .before .step-at .ensures) (c .before .before .before .s .given .1) in
     omega (arith, g .0, g .1, c .size .ensures)
 
 loop-less : tie.Need-loop-less Inv-loop μ-loop
-loop-less c = 
+loop-less c =
     let g = step-inside (c .before .before .before .before .before .before .before .before .args .file .now) (c .before .before .before .before .before .before .loop .at) _ _ (c .before .before .before .before .before .step-at .ensures) (c .before .before .before .s .given .1) in
     omega (arith, g .0, g .1, c .size .ensures)
 
 loop-again : tie.Need-loop-again Inv-loop μ-loop
-loop-again c = 
+loop-again c =
     let g = step-inside (c .before .before .before .before .before .before .before .before .args .file .now) (c .before .before .before .before .before .before .loop .at) _ _ (c .before .before .before .before .before .step-at .ensures) (c .before .before .before .s .given .1) in
     (omega (arith, g .0, c .size .ensures), omega (arith, g .1, c .size .ensures))
 
