@@ -126,10 +126,7 @@ fn head_at(file: &[u8], at: usize) -> u32
     requires { ⌜ at + 4 ≤ length (now file) ⌝ }
     ensures { λ r. ⌜ Head (now (file .entry)) at r ⌝ }
 {
-    wide(file[at])
-        + 256 * wide(file[at + 1])
-        + 65536 * wide(file[at + 2])
-        + 16777216 * wide(file[at + 3])
+    two_at(file, at) as u32 + 65536 * two_at(file, at + 2) as u32
 }
 
 // The token record at a place, by its raw count.
