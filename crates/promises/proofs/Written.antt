@@ -1,15 +1,15 @@
 -- What resolution writes for a list that passes, read back. Assumes nothing.
-use mathlib.Core.Path.{_≡_, refl, sym, ap, _∙_}
-use mathlib.Core.Bool.{true, cond}
-use mathlib.Core.List.{List, [], _∷_, _++_, map-append}
-use Prim.Native.Nat.{ℕ, zero, suc, _+_, _/_, _%_, _≤_, _<_}
+use mathlib.Core.Path.{_≡_, sym}
+use mathlib.Core.Bool.{true}
+use mathlib.Core.List.{List, [], _∷_, map-append}
+use Prim.Native.Nat.{ℕ, zero, suc, _/_, _%_, _≤_, _<_}
 use native.Mathlib.Omega.{arith}
 use lib.Dec.{eqb, leb, ltb}
-use lib.ListN.{length, take, drop, replicate}
+use lib.ListN.{length, take, replicate}
 use lib.Seq.{take-at}
 use borrow.Author.Tests.{eqb-false, leb-true, ltb-true}
 use Rattle.records.specs.declared.Step.{Step}
-use Rattle.records.specs.declared.Step.the-variants.{Enter as enter, Leave as leave, Token as token, Error as error}
+use Rattle.records.specs.declared.Step.the-variants.{Enter as enter}
 use Rattle.records.specs.Record.{bytes, over, Sounds}
 use Rattle.records.proofs.Tests.{by-test}
 use Rattle.events.specs.declared.event.Event.{Event}
@@ -17,7 +17,7 @@ use Rattle.events.specs.declared.event.Event.the-variants.{Start, Finish, Token
 use Rattle.events.specs.Event.{decode, eventsOf, wordsOf, tombstone}
 use Rattle.events.specs.Answer.{says}
 use Rattle.events.specs.Check.{checked}
-use Rattle.events.specs.Process.{Parent, Placed, placed, follow, enters, entered, turn, turns, process, stepsOf, file}
+use Rattle.events.specs.Process.{Parent, placed, follow, enters, entered, turn, turns, process, stepsOf}
 use Rattle.events.specs.Resolve.{ends, resolved}
 use Rattle.events.specs.Shape.{need}
 use Rattle.events.proofs.Passing.{process-need}

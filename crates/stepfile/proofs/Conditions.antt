@@ -2,13 +2,13 @@
 use Prim.Native.Nat.{ℕ, zero, suc, _+_, _≤_, _<_}
 use native.Mathlib.Omega.{arith}
 use native.Mathlib.Nat.{zero-add}
-use mathlib.Core.Path.{_≡_, refl, sym, ap, _∙_, subst}
+use mathlib.Core.Path.{_≡_, refl, sym, ap, _∙_}
 use mathlib.Core.Bool.{Bool, true, false, cond}
 use mathlib.Core.List.{List, [], _∷_, _++_, append-assoc, append-nil}
 use lib.Dec.{eqb, ltb}
-use lib.ListN.{length, getD, take, length-append}
+use lib.ListN.{length, getD, take}
 use lib.Seq.{take-length, getD-drop}
-use borrow.Author.Tests.{ne-eqb, lt-ltb, le-ltb, eqb-true, eqb-false, ltb-true, ltb-false}
+use borrow.Author.Tests.{ne-eqb, lt-ltb, le-ltb, eqb-true, ltb-true, ltb-false}
 use Rattle.records.specs.declared.Step.{Step}
 use Rattle.records.specs.declared.Step.the-variants.{Enter, Leave, Error}
 use Rattle.records.specs.Record.{recordOf, bytes, Sound as SoundStep, Sounds}
@@ -19,15 +19,15 @@ use Rattle.stepfile.specs.declared.Found.the-variants as F
 use Rattle.stepfile.specs.declared.Nodes.the-variants.{Open, Fault}
 use Rattle.stepfile.specs.Front.{two, stepOf, front, behind}
 use Rattle.stepfile.specs.Answer.{Numbers, says, refuses}
-use Rattle.stepfile.specs.Nesting.{nest, onNodes}
+use Rattle.stepfile.specs.Nesting.{nest}
 use Rattle.stepfile.specs.File.{ended, fileRead}
 use Rattle.stepfile.specs.OneByOne.{Walked, stepsIn, walked, judged}
-use Rattle.stepfile.specs.Good.{Bytes, enters, leaves, Above, Good, Upto, Cut, Unsound, Breaks, Breaks.again, Breaks.below, Breaks.none, Breaks.inside, Unnested, Verdict, Verdict.good, Verdict.cut, Verdict.unsound, Verdict.unnested}
+use Rattle.stepfile.specs.Good.{Bytes, enters, leaves, Good, Upto, Cut, Unsound, Breaks, Breaks.again, Breaks.below, Breaks.none, Breaks.inside, Verdict, Verdict.good, Verdict.cut, Verdict.unsound, Verdict.unnested}
 use Rattle.stepfile.proofs.Fronts.{a-token, no-record}
 use Rattle.stepfile.proofs.Inverse.{behind-step, record-there}
 use Rattle.stepfile.proofs.Nestings.{ended-none, ended-closed, ended-open}
 use Rattle.stepfile.proofs.Walks.{shorter, agree, read-back, walked-first}
-use Rattle.stepfile.proofs.Depths.{depth, enters-append, leaves-append, Proceeds, Reaches, proceeds-reaches, reaches-proceeds, judged-past, Ends, Ends.over, Ends.broke, ends, Why, Why.late, Why.low, why, breaks-again, breaks-below}
+use Rattle.stepfile.proofs.Depths.{depth, enters-append, leaves-append, Reaches, proceeds-reaches, reaches-proceeds, judged-past, Ends, Ends.over, Ends.broke, ends, Why, Why.late, Why.low, why, breaks-again, breaks-below}
 
 -- ---- the front of a file, by what it is
 

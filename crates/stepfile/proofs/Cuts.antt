@@ -1,27 +1,26 @@
 -- A good file that is cut anywhere is refused. Assumes nothing.
-use Prim.Native.Nat.{ℕ, zero, suc, _+_, _*_, _-_, _≤_, _<_}
+use Prim.Native.Nat.{ℕ, zero, suc, _+_, _-_, _≤_, _<_}
 use native.Mathlib.Omega.{arith}
 use native.Mathlib.Nat.{zero-add, add-zero}
-use mathlib.Core.Path.{_≡_, refl, sym, ap, _∙_, subst}
+use mathlib.Core.Path.{_≡_, refl, _∙_, subst}
 use mathlib.Core.Bool.{Bool, true, false, cond}
-use mathlib.Core.List.{List, [], _∷_, _++_, append-nil}
+use mathlib.Core.List.{List, [], _∷_, _++_}
 use lib.Dec.{eqb, ltb}
 use lib.ListN.{length, getD, take, length-append}
-use lib.Seq.{length-take-le, take-append-le, take-append-add, take-append-seam, getD-take}
-use borrow.Author.Tests.{eq-eqb, ne-eqb, eqb-true, eqb-false, lt-ltb, le-ltb, ltb-true, ltb-false}
+use lib.Seq.{length-take-le, take-append-le, take-append-add, getD-take}
+use borrow.Author.Tests.{eq-eqb, ne-eqb, eqb-true, eqb-false, ltb-true, ltb-false}
 use Rattle.records.specs.declared.Step.{Step}
 use Rattle.records.specs.declared.Step.the-variants.{Enter, Leave, Token, Error}
 use Rattle.records.specs.Record.{recordOf, bytes, Sounds}
 use Rattle.records.proofs.Tests.{by-test}
-use Rattle.stepfile.specs.declared.Found.{Found}
 use Rattle.stepfile.specs.declared.Found.the-variants as F
 use Rattle.stepfile.specs.declared.Nodes.{Nodes}
 use Rattle.stepfile.specs.declared.Nodes.the-variants.{Open, Fault}
 use Rattle.stepfile.specs.Front.{two, front}
-use Rattle.stepfile.specs.Answer.{Numbers, refuses}
+use Rattle.stepfile.specs.Answer.{refuses}
 use Rattle.stepfile.specs.Nesting.{nest, onNodes, nests}
 use Rattle.stepfile.specs.File.{ended, fileRead}
-use Rattle.stepfile.specs.OneByOne.{Walked, stepsIn, walked, judged}
+use Rattle.stepfile.specs.OneByOne.{stepsIn, walked, judged}
 use Rattle.stepfile.specs.Good.{holds}
 use Rattle.stepfile.proofs.Nestings.{ended-none, ended-open}
 use Rattle.stepfile.proofs.Walks.{agree, walked-first}

@@ -2,9 +2,9 @@
 use Prim.Native.Nat.{ℕ, zero, suc, _+_, _≤_, _<_}
 use native.Mathlib.Omega.{arith}
 use native.Mathlib.Nat.{add-zero}
-use mathlib.Core.Path.{_≡_, refl, sym, ap, _∙_, subst}
+use mathlib.Core.Path.{_≡_, refl, sym, ap, _∙_}
 use mathlib.Core.Bool.{true, false}
-use mathlib.Core.List.{List, [], _∷_, _++_, append-assoc}
+use mathlib.Core.List.{List, [], _∷_, _++_}
 use lib.ListN.{length, take, length-append}
 use Rattle.records.specs.declared.Step.{Step}
 use Rattle.records.specs.declared.Step.the-variants.{Enter, Leave, Token, Error}
@@ -12,7 +12,7 @@ use Rattle.records.specs.Record.{recordOf, bytes}
 use Rattle.stepfile.specs.declared.Found.{Found}
 use Rattle.stepfile.specs.declared.Nodes.{Nodes}
 use Rattle.stepfile.specs.declared.Nodes.the-variants.{Open, Fault}
-use Rattle.stepfile.specs.Answer.{Numbers, refuses}
+use Rattle.stepfile.specs.Answer.{refuses}
 use Rattle.stepfile.specs.Nesting.{after, nest, onNodes, nests}
 use Rattle.stepfile.specs.OneByOne.{judged}
 use Rattle.stepfile.specs.Good.{enters, leaves}

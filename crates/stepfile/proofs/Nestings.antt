@@ -1,13 +1,12 @@
 -- The nodes open past a record, and the end of a walk, by what the code tests. Assumes nothing.
 use Prim.Native.Nat.{ℕ, zero, suc, _-_, _≤_, _<_}
 use native.Mathlib.Omega.{arith}
-use mathlib.Core.Path.{_≡_, refl, sym, ap, _∙_}
+use mathlib.Core.Path.{_≡_, refl, ap}
 use Rattle.records.specs.declared.Step.{Step}
 use Rattle.records.specs.declared.Step.the-variants.{Enter, Leave, Token, Error}
-use Rattle.stepfile.specs.declared.Nodes.{Nodes}
 use Rattle.stepfile.specs.declared.Nodes.the-variants.{Open, Fault}
 use Rattle.stepfile.specs.Answer.{says, refuses}
-use Rattle.stepfile.specs.Nesting.{after, nest, onNodes}
+use Rattle.stepfile.specs.Nesting.{after, nest}
 use Rattle.stepfile.specs.File.{ended}
 
 -- a leave where a node is open, and any step past one

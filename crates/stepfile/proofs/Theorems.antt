@@ -3,7 +3,7 @@ use Prim.Native.Nat.{ℕ, _+_, _<_}
 use native.Mathlib.Omega.{arith}
 use mathlib.Core.Path.{_≡_, refl, sym, ap, _∙_, subst}
 use mathlib.Core.Bool.{Bool, true, false, cond}
-use mathlib.Core.List.{List, [], _∷_, _++_, append-nil}
+use mathlib.Core.List.{List, [], _∷_, _++_}
 use lib.Dec.{eqb}
 use lib.ListN.{length, take, length-append}
 use lib.Seq.{take-append-seam, drop-append-seam}
@@ -19,7 +19,7 @@ use Rattle.stepfile.specs.Answer.{Numbers, says, refuses, numbers}
 use Rattle.stepfile.specs.Nesting.{nests}
 use Rattle.stepfile.specs.File.{fileRead}
 use Rattle.stepfile.specs.OneByOne.{Walked, walked, judged}
-use Rattle.stepfile.specs.Good.{Bytes, enters, leaves, Good, Verdict, Verdict.good, holds}
+use Rattle.stepfile.specs.Good.{Bytes, Good, Verdict, Verdict.good, holds}
 use Rattle.stepfile.proofs.Inverse.{read-record, behind-step, record-there}
 use Rattle.stepfile.proofs.Nestings.{ended-good}
 use Rattle.stepfile.proofs.Walks.{agree, reads-steps}

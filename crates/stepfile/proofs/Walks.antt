@@ -1,5 +1,5 @@
 -- Walks over a file: enough rounds, the whole-file call and the steps one by one, and what was written read back. Assumes nothing.
-use Prim.Native.Nat.{ℕ, zero, suc, _+_, _≤_, _<_}
+use Prim.Native.Nat.{ℕ, zero, suc, _+_, _≤_}
 use native.Mathlib.Omega.{arith}
 use native.Mathlib.Numerals.{add-one}
 use mathlib.Core.Path.{_≡_, refl, sym, ap, _∙_}
@@ -20,7 +20,7 @@ use Rattle.stepfile.specs.declared.Turn.the-variants.{On, Ends}
 use Rattle.stepfile.specs.Front.{front, behind}
 use Rattle.stepfile.specs.Nesting.{nest, onNodes}
 use Rattle.stepfile.specs.Answer.{Numbers, refuses}
-use Rattle.stepfile.specs.File.{ended, onFound, walk, fileRead}
+use Rattle.stepfile.specs.File.{ended, onFound, walk}
 use Rattle.stepfile.specs.OneByOne.{Walked, stepsIn, walked, judged}
 use Rattle.stepfile.specs.Inside.{Fits, passed, from, Turned}
 use Rattle.stepfile.proofs.Inverse.{read-record, step-fits, behind-step}

@@ -1,6 +1,6 @@
 -- A whole step file, record by record (docs/RULES.md, sections 3 and 7): at each record 11, then 12, then 13.
 use Prim.Native.Nat.{ℕ, zero, suc, _+_}
-use mathlib.Core.List.{List, [], _∷_}
+use mathlib.Core.List.{List}
 use lib.ListN.{length, drop}
 use Rattle.records.specs.declared.Step.{Step}
 use Rattle.records.specs.Record.{recordOf}

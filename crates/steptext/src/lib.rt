@@ -3,8 +3,6 @@ use records::Step;
 use records::size;
 use stepfile::Found;
 use stepfile::step_at;
-ghost use Prim.Native.Nat.{_≤_};
-ghost use lib.ListN.{length};
 
 fn put_number(n: u64) {
     io::write_all(1, b" ");

@@ -3,9 +3,6 @@ use mathlib.Core.Path.{_∙_}
 use borrow.Author.Needs.{needs}
 use Rattle.oq3_read.proofs.of_front.Statement.{statement}
 use Rattle.oq3_read.proofs.of_front.Tie as tie
-use Rattle.oq3_read.proofs.of_front.Reads as reads
-use Rattle.oq3_read.proofs.of_front.Lts as lts
-use Rattle.oq3_read.proofs.of_step.Reads as of-step-reads
 
 enum-known-f : tie.Need-enum-known-f
 enum-known-f c = search needs

@@ -2,8 +2,6 @@
 use borrow.Author.Needs.{needs}
 use Rattle.oq3_read.proofs.of_step.Statement.{statement}
 use Rattle.oq3_read.proofs.of_step.Tie as tie
-use Rattle.oq3_read.proofs.of_step.Reads as reads
-use Rattle.oq3_read.proofs.of_step.Lts as lts
 
 enum-known-s : tie.Need-enum-known-s
 enum-known-s c = search needs

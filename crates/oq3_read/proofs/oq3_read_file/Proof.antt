@@ -1,5 +1,4 @@
 -- `oq3_read::oq3_read_file` meets its contract: the answer's place and records, told. Assumes nothing.
-use native.Mathlib.Omega.{arith}
 use mathlib.Core.Path.{ap, _∙_}
 use mathlib.Core.List.{[], _∷_}
 use lib.Seq.{sets-eq}
@@ -8,12 +7,6 @@ use Rattle.oq3_read.proofs.Told.{too-short, is-told}
 use borrow.Author.Needs.{needs}
 use Rattle.oq3_read.proofs.oq3_read_file.Statement.{statement}
 use Rattle.oq3_read.proofs.oq3_read_file.Tie as tie
-use Rattle.oq3_read.proofs.oq3_read_file.Reads as reads
-use Rattle.oq3_read.proofs.oq3_read_file.Lts as lts
-use Rattle.stepfile.proofs.Answer.code.Reads as code-reads
-use Rattle.stepfile.proofs.Answer.place.Reads as place-reads
-use Rattle.stepfile.proofs.Answer.records.Reads as records-reads
-use Rattle.stepfile.proofs.read_file.Reads as read-file-reads
 
 returns : tie.Need-returns
 returns c = too-short _ _ _ (c .if1 .taken)

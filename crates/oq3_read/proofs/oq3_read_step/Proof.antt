@@ -3,13 +3,6 @@ use Rattle.oq3_read.proofs.Told.{no-words, step-told}
 use borrow.Author.Needs.{needs}
 use Rattle.oq3_read.proofs.oq3_read_step.Statement.{statement}
 use Rattle.oq3_read.proofs.oq3_read_step.Tie as tie
-use Rattle.oq3_read.proofs.oq3_read_step.Reads as reads
-use Rattle.oq3_read.proofs.oq3_read_step.Lts as lts
-use Rattle.oq3_read.proofs.of_front.Reads as of-front-reads
-use Rattle.oq3_read.proofs.tell.Reads as tell-reads
-use Rattle.stepfile.proofs.Found.code.Reads as code-reads
-use Rattle.stepfile.proofs.front.Reads as front-reads
-use Rattle.stepfile.proofs.width.Reads as width-reads
 
 returns : tie.Need-returns
 returns c = no-words _ _ (c .if1 .taken)

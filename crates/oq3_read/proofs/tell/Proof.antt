@@ -6,8 +6,6 @@ use lib.Seq.{sets-eq}
 use borrow.Author.Needs.{needs}
 use Rattle.oq3_read.proofs.tell.Statement.{statement}
 use Rattle.oq3_read.proofs.tell.Tie as tie
-use Rattle.oq3_read.proofs.tell.Reads as reads
-use Rattle.oq3_read.proofs.tell.Lts as lts
 
 slice-write-answer : tie.Need-slice-write-answer
 slice-write-answer c = search needs

@@ -4,8 +4,6 @@ use Rattle.stepfile.proofs.Nestings.{left-open}
 use borrow.Author.Needs.{needs}
 use Rattle.stepfile.proofs.after.Statement.{statement}
 use Rattle.stepfile.proofs.after.Tie as tie
-use Rattle.stepfile.proofs.after.Reads as reads
-use Rattle.stepfile.proofs.after.Lts as lts
 
 enum-told : tie.Need-enum-told
 enum-told c = search needs

@@ -3,8 +3,6 @@ use mathlib.Core.Path.{sym}
 use Rattle.stepfile.proofs.Nestings.{ended-none, ended-closed, ended-open}
 use Rattle.stepfile.proofs.ended.Statement.{statement}
 use Rattle.stepfile.proofs.ended.Tie as tie
-use Rattle.stepfile.proofs.ended.Reads as reads
-use Rattle.stepfile.proofs.ended.Lts as lts
 
 returns : tie.Need-returns
 returns c = sym (ended-none _ _ _ (c .if1 .taken))

@@ -4,9 +4,6 @@ use Rattle.stepfile.proofs.Nestings.{nest-inside, nest-first, nest-clos
 use borrow.Author.Needs.{needs}
 use Rattle.stepfile.proofs.nest.Statement.{statement}
 use Rattle.stepfile.proofs.nest.Tie as tie
-use Rattle.stepfile.proofs.nest.Reads as reads
-use Rattle.stepfile.proofs.nest.Lts as lts
-use Rattle.stepfile.proofs.after.Reads as after-reads
 
 after-requires : tie.Need-after-requires
 after-requires c κs = search needs

@@ -7,11 +7,6 @@ use Rattle.stepfile.proofs.Walks.{round-step, round-end, round-cut, rou
 use borrow.Author.Needs.{needs}
 use Rattle.stepfile.proofs.next.Statement.{statement}
 use Rattle.stepfile.proofs.next.Tie as tie
-use Rattle.stepfile.proofs.next.Reads as reads
-use Rattle.stepfile.proofs.next.Lts as lts
-use Rattle.stepfile.proofs.ended.Reads as ended-reads
-use Rattle.stepfile.proofs.passed.Reads as passed-reads
-use Rattle.stepfile.proofs.step_at.Reads as step-at-reads
 
 step-at-requires : tie.Need-step-at-requires
 step-at-requires c κs = search needs

@@ -1,14 +1,10 @@
 -- `stepfile::passed` meets its contract: by the nodes open past the step. Assumes nothing.
-use mathlib.Core.Path.{_≡_, sym, _∙_}
+use mathlib.Core.Path.{sym, _∙_}
 use Rattle.stepfile.specs.Nesting.{nest}
 use Rattle.stepfile.specs.Inside.{passed}
 use borrow.Author.Needs.{needs}
 use Rattle.stepfile.proofs.passed.Statement.{statement}
 use Rattle.stepfile.proofs.passed.Tie as tie
-use Rattle.stepfile.proofs.passed.Reads as reads
-use Rattle.stepfile.proofs.passed.Lts as lts
-use Rattle.records.proofs.size.Reads as size-reads
-use Rattle.stepfile.proofs.nest.Reads as nest-reads
 
 nest-requires : tie.Need-nest-requires
 nest-requires c κs = search needs

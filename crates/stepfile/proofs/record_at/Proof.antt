@@ -1,13 +1,8 @@
 -- `stepfile::record_at` meets its contract: a head says the kind and the length of one sort of record, or of none. Assumes nothing.
-use native.Mathlib.Omega.{arith}
 use Rattle.stepfile.proofs.Fronts.{enter-at, leave-at, token-at, error-at, none-at}
 use borrow.Author.Needs.{needs}
 use Rattle.stepfile.proofs.record_at.Statement.{statement}
 use Rattle.stepfile.proofs.record_at.Tie as tie
-use Rattle.stepfile.proofs.record_at.Reads as reads
-use Rattle.stepfile.proofs.record_at.Lts as lts
-use Rattle.stepfile.proofs.token_at.Reads as token-at-reads
-use Rattle.stepfile.proofs.two_at.Reads as two-at-reads
 
 add-two-at : tie.Need-add-two-at
 add-two-at c = search needs

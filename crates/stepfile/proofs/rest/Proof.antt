@@ -9,10 +9,6 @@ use Rattle.stepfile.proofs.Inverse.{taken-fits}
 use borrow.Author.Needs.{needs}
 use Rattle.stepfile.proofs.rest.Statement.{statement}
 use Rattle.stepfile.proofs.rest.Tie as tie
-use Rattle.stepfile.proofs.rest.Reads as reads
-use Rattle.stepfile.proofs.rest.Lts as lts
-use Rattle.stepfile.proofs.front.Reads as front-reads
-use Rattle.stepfile.proofs.width.Reads as width-reads
 
 front-requires : tie.Need-front-requires
 front-requires c κs = search needs

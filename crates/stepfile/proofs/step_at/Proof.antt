@@ -5,10 +5,6 @@ use Rattle.stepfile.proofs.Fronts.{at-end, at-cut, at-whole}
 use borrow.Author.Needs.{needs}
 use Rattle.stepfile.proofs.step_at.Statement.{statement}
 use Rattle.stepfile.proofs.step_at.Tie as tie
-use Rattle.stepfile.proofs.step_at.Reads as reads
-use Rattle.stepfile.proofs.step_at.Lts as lts
-use Rattle.stepfile.proofs.head_at.Reads as head-at-reads
-use Rattle.stepfile.proofs.record_at.Reads as record-at-reads
 
 returns : tie.Need-returns
 returns c = sym (at-end _ _ (c .if1 .taken))

@@ -5,9 +5,6 @@ use Rattle.stepfile.proofs.Fronts.{no-count, high-count, token-counted}
 use borrow.Author.Needs.{needs}
 use Rattle.stepfile.proofs.token_at.Statement.{statement}
 use Rattle.stepfile.proofs.token_at.Tie as tie
-use Rattle.stepfile.proofs.token_at.Reads as reads
-use Rattle.stepfile.proofs.token_at.Lts as lts
-use Rattle.stepfile.proofs.two_at.Reads as two-at-reads
 
 add-count : tie.Need-add-count
 add-count c = search needs

@@ -6,11 +6,6 @@ use Rattle.stepfile.proofs.Walks.{step-inside}
 use borrow.Author.Needs.{needs}
 use Rattle.steptext.proofs.walk.Statement.{statement}
 use Rattle.steptext.proofs.walk.Tie as tie
-use Rattle.steptext.proofs.walk.Reads as reads
-use Rattle.steptext.proofs.walk.Lts as lts
-use Rattle.records.proofs.size.Reads as size-reads
-use Rattle.stepfile.proofs.step_at.Reads as step-at-reads
-use Rattle.steptext.proofs.put_step.Reads as put-step-reads
 
 abbrev Inv-loop : tie.InvT-loop
 Inv-loop file shown at₀ n₀ at n = (at ≤ length file) × (n ≤ at)

@@ -7,13 +7,6 @@ use Rattle.stepfile.proofs.Walks.{step-inside}
 use borrow.Author.Needs.{needs}
 use Rattle.steps.proofs.tree.put_tree.Statement.{statement}
 use Rattle.steps.proofs.tree.put_tree.Tie as tie
-use Rattle.steps.proofs.tree.put_tree.Reads as reads
-use Rattle.steps.proofs.tree.put_tree.Lts as lts
-use Rattle.records.proofs.size.Reads as size-reads
-use Rattle.stepfile.proofs.step_at.Reads as step-at-reads
-use Rattle.steps.proofs.tree.ended.Reads as ended-reads
-use Rattle.steps.proofs.tree.put_step.Reads as put-step-reads
-use Rattle.steps.proofs.tree.walked.Reads as walked-reads
 
 abbrev Inv-loop : tie.InvT-loop
 Inv-loop out₀ at kinds file n₀ i₀ w₀ out n i w = (i ≤ length file) × (length out ≡ length out₀) × (w .depth ≤ i) × (w .place ≤ 255 * i) × (w .errors ≤ i)
