@@ -1,4 +1,8 @@
 // A wide write: the head of an event's record, and eight bytes at once.
+use records::ENTER;
+use records::ERROR;
+use records::LEAVE;
+use records::TOKEN;
 ghost use mathlib.Core.Path.{_≡_};
 ghost use Prim.Native.Nat.{_+_, _/_, _%_, _≤_};
 ghost use lib.ListN.{length, getD};
@@ -10,10 +14,10 @@ pub(crate) fn head_of(a: u32) -> u32
     ensures { λ r. ⌜ r ≡ getD heads (a / 65536 % 4) 0 ⌝ }
 {
     match a / 65536 % 4 {
-        0 => 262148,
-        1 => 65538,
-        2 => 131072,
-        _ => 196611,
+        0 => ERROR,
+        1 => ENTER,
+        2 => LEAVE,
+        _ => TOKEN,
     }
 }
 

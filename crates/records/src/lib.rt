@@ -14,6 +14,15 @@ pub enum Step {
     Error(u16, u16),
 }
 
+// The first four bytes of each record as one number: its payload's length, and 65,536 times its kind.
+pub const ENTER: u32 = 65538;
+
+pub const LEAVE: u32 = 131072;
+
+pub const TOKEN: u32 = 196611;
+
+pub const ERROR: u32 = 262148;
+
 // The bytes of a step's record.
 pub fn size(s: Step) -> usize
     ensures { λ r. ⌜ r ≡ length (recordOf s) ⌝ }

@@ -21,7 +21,7 @@ use Rattle.stepfile.specs.Front.{two, stepOf, front, behind}
 use Rattle.stepfile.specs.Answer.{Numbers, says, refuses}
 use Rattle.stepfile.specs.Nesting.{nest}
 use Rattle.stepfile.specs.File.{ended, fileRead}
-use Rattle.stepfile.specs.OneByOne.{Walked, stepsIn, walked, judged}
+use Rattle.stepfile.specs.OneByOne.{Walked, walkedIn, walked, judged}
 use Rattle.stepfile.specs.Good.{Bytes, enters, leaves, Good, Upto, Cut, Unsound, Breaks, Breaks.again, Breaks.below, Breaks.none, Breaks.inside, Verdict, Verdict.good, Verdict.cut, Verdict.unsound, Verdict.unnested}
 use Rattle.stepfile.proofs.Fronts.{a-token, no-record}
 use Rattle.stepfile.proofs.Inverse.{behind-step, record-there}
@@ -80,8 +80,8 @@ pub record Told (bs : List ℕ) (w : Walked) : Type 0 where
   pub file : bs ≡ bytes (w .steps) ++ w .rest
   pub last : (s : Step) → front (w .rest) ≡ F.Sound s → ⊥
 
-pub tells : (n : ℕ) (bs : List ℕ) → length bs ≤ n → Bytes bs → Told bs (stepsIn n bs)
-unfolding stepsIn bytes
+pub tells : (n : ℕ) (bs : List ℕ) → length bs ≤ n → Bytes bs → Told bs (walkedIn n bs)
+unfolding walkedIn bytes
 tells zero [] h b = record { sound = tt; file = refl; last = ended-there }
   where
     ended-there : (s : Step) → front [] ≡ F.Sound s → ⊥
@@ -97,11 +97,11 @@ tells (suc n) bs h b = on (λ s e. tells n (behind bs) (shorter bs s n e h) (byt
     none : (f : Found) → front bs ≡ f → ((s : Step) → f ≡ F.Sound s → ⊥) → Told bs (record { steps = []; rest = bs })
     none f e not = record { sound = tt; file = refl; last = λ s q. not s (sym e ∙ q) }
 
-    on : ((s : Step) → front bs ≡ F.Sound s → Told (behind bs) (stepsIn n (behind bs))) → (f : Found) → front bs ≡ f → Told bs (stepsIn (suc n) bs)
+    on : ((s : Step) → front bs ≡ F.Sound s → Told (behind bs) (walkedIn n (behind bs))) → (f : Found) → front bs ≡ f → Told bs (walkedIn (suc n) bs)
     on ih (F.Sound s) e =
         let t = ih s e in
         let r = record-there bs b s e in
-        rw e (record { sound = (r .1, t .sound); file = r .0 ∙ ap (λ (l : List ℕ). recordOf s ++ l) (t .file) ∙ sym (append-assoc (recordOf s) (bytes (stepsIn n (behind bs) .steps)) (stepsIn n (behind bs) .rest)); last = t .last })
+        rw e (record { sound = (r .1, t .sound); file = r .0 ∙ ap (λ (l : List ℕ). recordOf s ++ l) (t .file) ∙ sym (append-assoc (recordOf s) (bytes (walkedIn n (behind bs) .steps)) (walkedIn n (behind bs) .rest)); last = t .last })
     on ih F.End e = rw e (none F.End e (λ s q. let z : _≡_ {A = ℕ} 0 1 = cc in omega arith))
     on ih F.Cut e = rw e (none F.Cut e (λ s q. let z : _≡_ {A = ℕ} 0 1 = cc in omega arith))
     on ih F.Unsound e = rw e (none F.Unsound e (λ s q. let z : _≡_ {A = ℕ} 0 1 = cc in omega arith))
@@ -207,8 +207,8 @@ from-there bs p u d e =
     ∙ rw (zero-add (length (bytes (u .steps))), zero-add (length (u .steps))))
 
 -- where no step stands nothing is read
-pub stops : (n : ℕ) (bs : List ℕ) (f : Found) → front bs ≡ f → ((s : Step) → f ≡ F.Sound s → ⊥) → stepsIn n bs ≡ record { steps = []; rest = bs }
-unfolding stepsIn
+pub stops : (n : ℕ) (bs : List ℕ) (f : Found) → front bs ≡ f → ((s : Step) → f ≡ F.Sound s → ⊥) → walkedIn n bs ≡ record { steps = []; rest = bs }
+unfolding walkedIn
 stops zero bs f e h = refl
 stops (suc n) bs (F.Sound s) e h = absurd (h s refl)
 stops (suc n) bs F.End e h = rw e
@@ -223,7 +223,7 @@ said-broke bs p u d s more e h g n = from-there bs p u d e ∙ rw (g, walked-fir
 
 -- at the end of the file
 said-end : (bs : List ℕ) (p : ℕ) (u : Upto bs p) (d : ℕ) → depth 0 0 (u .steps) ≡ Open d → u .rest ≡ [] → fileRead bs ≡ ended p (length (u .steps)) d
-unfolding judged stepsIn front
+unfolding judged walkedIn front
 said-end bs p u d e g = from-there bs p u d e ∙ rw g
 
 -- a good file, up to its end, which is at depth zero

@@ -20,7 +20,7 @@ use Rattle.stepfile.specs.Front.{two, front}
 use Rattle.stepfile.specs.Answer.{refuses}
 use Rattle.stepfile.specs.Nesting.{nest, onNodes, nests}
 use Rattle.stepfile.specs.File.{ended, fileRead}
-use Rattle.stepfile.specs.OneByOne.{stepsIn, walked, judged}
+use Rattle.stepfile.specs.OneByOne.{walkedIn, walked, judged}
 use Rattle.stepfile.specs.Good.{holds}
 use Rattle.stepfile.proofs.Nestings.{ended-none, ended-open}
 use Rattle.stepfile.proofs.Walks.{agree, walked-first}
@@ -73,7 +73,7 @@ Says at r o bs h n = judged at r o (walked bs .steps) (front (walked bs .rest)) 
 
 -- inside the first record, or before it
 in-first : (s : Step) (ss : List Step) (at r o p n : ℕ) → nest r o s ≡ Open p → n < length (recordOf s) → Says at r o (take n (recordOf s ++ bytes ss)) 0 n
-unfolding judged stepsIn front
+unfolding judged walkedIn front
 in-first s ss at r o p zero e l = not-ended at r o s p e ∙ rw (add-zero at)
 in-first s ss at r o p (suc n) e l =
     let t : take (suc n) (recordOf s ++ bytes ss) ≡ take (suc n) (recordOf s) = take-append-le (suc n) (recordOf s) (bytes ss) (omega arith) in

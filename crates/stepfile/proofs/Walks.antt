@@ -21,7 +21,7 @@ use Rattle.stepfile.specs.Front.{front, behind}
 use Rattle.stepfile.specs.Nesting.{nest, onNodes}
 use Rattle.stepfile.specs.Answer.{Numbers, refuses}
 use Rattle.stepfile.specs.File.{ended, onFound, walk}
-use Rattle.stepfile.specs.OneByOne.{Walked, stepsIn, walked, judged}
+use Rattle.stepfile.specs.OneByOne.{Walked, walkedIn, walked, judged}
 use Rattle.stepfile.specs.Inside.{Fits, passed, from, Turned}
 use Rattle.stepfile.proofs.Inverse.{read-record, step-fits, behind-step}
 use Rattle.stepfile.proofs.Nestings.{opens-one}
@@ -55,8 +55,8 @@ by-nodes (Open p) g h a q = q p
 by-nodes Fault g h a q = refl
 
 -- As many rounds as bytes are enough: more make no difference.
-pub rounds : (n m : ℕ) (bs : List ℕ) → length bs ≤ n → length bs ≤ m → stepsIn n bs ≡ stepsIn m bs
-unfolding stepsIn front
+pub rounds : (n m : ℕ) (bs : List ℕ) → length bs ≤ n → length bs ≤ m → walkedIn n bs ≡ walkedIn m bs
+unfolding walkedIn front
 rounds zero zero bs h k = refl
 rounds zero (suc m) [] h k = refl
 rounds zero (suc m) (b ∷ bs) h k = absurd (omega arith)
@@ -71,17 +71,17 @@ module _ (at r o : ℕ) where
   told : (n : ℕ) (bs : List ℕ)
       → ((s : Step) (p : ℕ) → front bs ≡ Sound s
       → walk n (drop (length (recordOf s)) bs) (at + length (recordOf s)) (suc r) p
-      ≡ judged (at + length (recordOf s)) (suc r) p (stepsIn n (behind bs) .steps) (front (stepsIn n (behind bs) .rest)))
+      ≡ judged (at + length (recordOf s)) (suc r) p (walkedIn n (behind bs) .steps) (front (walkedIn n (behind bs) .rest)))
       → (f : Found) → front bs ≡ f
-      → walk (suc n) bs at r o ≡ judged at r o (stepsIn (suc n) bs .steps) (front (stepsIn (suc n) bs .rest))
-  unfolding walk stepsIn judged
+      → walk (suc n) bs at r o ≡ judged at r o (walkedIn (suc n) bs .steps) (front (walkedIn (suc n) bs .rest))
+  unfolding walk walkedIn judged
   told n bs ih (Sound s) e = rw e (by-nodes (nest r o s) _ _ _ (λ p. ih s p e))
   told n bs ih End e = rw (e, e)
   told n bs ih Cut e = rw (e, e)
   told n bs ih Unsound e = rw (e, e)
 
-pub agree : (n : ℕ) (bs : List ℕ) (at r o : ℕ) → length bs ≤ n → walk n bs at r o ≡ judged at r o (stepsIn n bs .steps) (front (stepsIn n bs .rest))
-unfolding walk stepsIn judged front
+pub agree : (n : ℕ) (bs : List ℕ) (at r o : ℕ) → length bs ≤ n → walk n bs at r o ≡ judged at r o (walkedIn n bs .steps) (front (walkedIn n bs .rest))
+unfolding walk walkedIn judged front
 agree zero [] at r o h = refl
 agree zero (b ∷ bs) at r o h = absurd (omega arith)
 agree (suc n) bs at r o h =
@@ -128,8 +128,8 @@ module _ (bs : List ℕ) (w : Walk) (n : ℕ) where
 
 -- What was written for sound steps, and anything behind it, reads as those steps and what is behind.
 pub read-back : (n : ℕ) (ss : List Step) (more : List ℕ) → Sounds ss → length (bytes ss ++ more) ≤ n
-    → stepsIn n (bytes ss ++ more) ≡ record { steps = ss ++ walked more .steps; rest = walked more .rest }
-unfolding bytes stepsIn
+    → walkedIn n (bytes ss ++ more) ≡ record { steps = ss ++ walked more .steps; rest = walked more .rest }
+unfolding bytes walkedIn
 read-back n [] more h k = rounds n (length more) more k (omega arith)
 read-back zero (s ∷ ss) more h k = absurd (omega (arith, four s, length-append (recordOf s) (bytes ss), length-append (recordOf s ++ bytes ss) more))
 read-back (suc n) (s ∷ ss) more h k =
@@ -146,7 +146,7 @@ walked-first s more h =
     rw q at (read-back (length (bytes (s ∷ []) ++ more)) (s ∷ []) more h (omega arith))
 
 pub reads-steps : (ss : List Step) → Sounds ss → walked (bytes ss) ≡ record { steps = ss; rest = [] }
-unfolding stepsIn
+unfolding walkedIn
 reads-steps ss h =
     let q : bytes ss ++ [] ≡ bytes ss = append-nil (bytes ss) in
     rw (q, append-nil) at (read-back (length (bytes ss ++ [])) ss [] h (omega arith))

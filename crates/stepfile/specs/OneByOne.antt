@@ -21,12 +21,12 @@ first s w = record { steps = s ∷ w .steps; rest = w .rest }
 abbrev none : List ℕ → Walked
 none bs = record { steps = []; rest = bs }
 
-unfoldable pub stepsIn : ℕ → List ℕ → Walked
-stepsIn zero bs = none bs
-stepsIn (suc n) bs = onFound (front bs) (λ s. first s (stepsIn n (behind bs))) (none bs) (none bs) (none bs)
+unfoldable pub walkedIn : ℕ → List ℕ → Walked
+walkedIn zero bs = none bs
+walkedIn (suc n) bs = onFound (front bs) (λ s. first s (walkedIn n (behind bs))) (none bs) (none bs) (none bs)
 
 abbrev pub walked : List ℕ → Walked
-walked bs = stepsIn (length bs) bs
+walked bs = walkedIn (length bs) bs
 
 -- The whole, from the steps and what stands where they end: the first record that breaks the nesting, or the end.
 unfoldable pub judged : ℕ → ℕ → ℕ → List Step → Found → Numbers

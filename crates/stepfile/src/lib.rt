@@ -1,6 +1,10 @@
 // The reader of step files (docs/RULES.md, section 7): what stands at the front of a file, with the rest of it, and whether a whole file is
 // good. It writes nothing and takes files of any length.
+use records::ENTER;
+use records::ERROR;
+use records::LEAVE;
 use records::Step;
+use records::TOKEN;
 use records::size;
 ghost use mathlib.Core.Path.{_≡_};
 ghost use Prim.Native.Nat.{_+_, _^_, _≤_, _<_};
@@ -150,16 +154,16 @@ fn record_at(file: &[u8], at: usize, head: u32) -> Found
     requires { ⌜ at + (4 + two (now file) at) ≤ length (now file) ⌝ }
     ensures { λ r. ⌜ r ≡ stepOf (two (now (file .entry)) (at + 2)) (two (now (file .entry)) at) (drop at (now (file .entry))) ⌝ }
 {
-    if head == 65538 {
+    if head == ENTER {
         return Found::Sound(Step::Enter(two_at(file, at + 4)));
     }
-    if head == 131072 {
+    if head == LEAVE {
         return Found::Sound(Step::Leave);
     }
-    if head == 196611 {
+    if head == TOKEN {
         return token_at(file, at);
     }
-    if head == 262148 {
+    if head == ERROR {
         return Found::Sound(Step::Error(two_at(file, at + 4), two_at(file, at + 6)));
     }
     Found::Unsound
