@@ -33,27 +33,27 @@ use Rattle.stepfile.proofs.Depths.{depth, enters-append, leaves-append,
 
 pub data View (bs : List ℕ) : Found → Type 0 where
   empty : bs ≡ [] → View bs F.End
-  past : 0 < length bs → length bs < 4 + two bs 0 → View bs F.Cut
+  short : 0 < length bs → length bs < 4 + two bs 0 → View bs F.Cut
   whole : 0 < length bs → 4 + two bs 0 ≤ length bs → View bs (stepOf (two bs 2) (two bs 0) bs)
 
-view : (bs : List ℕ) → View bs (front bs)
+pub view : (bs : List ℕ) → View bs (front bs)
 unfolding front
 view [] = empty refl
 view (x ∷ bs) =
     by-test (View (x ∷ bs)) (eqb (length (x ∷ bs)) 0) _ _ (λ e. absurd (omega (arith, eqb-true (length (x ∷ bs)) 0 e))) (λ _.
     by-test (View (x ∷ bs)) (ltb (length (x ∷ bs)) (4 + two (x ∷ bs) 0)) _ _
-    (λ l. past (omega arith) (ltb-true (length (x ∷ bs)) (4 + two (x ∷ bs) 0) l))
+    (λ l. short (omega arith) (ltb-true (length (x ∷ bs)) (4 + two (x ∷ bs) 0) l))
     (λ l. whole (omega arith) (ltb-false (length (x ∷ bs)) (4 + two (x ∷ bs) 0) l)))
 
 pub front-cut : (bs : List ℕ) → 0 < length bs → length bs < 4 + two bs 0 → front bs ≡ F.Cut
 unfolding front
 front-cut bs h l = rw (ne-eqb (length bs) 0 (λ z. omega arith), lt-ltb (length bs) (4 + two bs 0) l)
 
-front-whole : (bs : List ℕ) → 0 < length bs → 4 + two bs 0 ≤ length bs → front bs ≡ stepOf (two bs 2) (two bs 0) bs
+pub front-whole : (bs : List ℕ) → 0 < length bs → 4 + two bs 0 ≤ length bs → front bs ≡ stepOf (two bs 2) (two bs 0) bs
 unfolding front
 front-whole bs h l = rw (ne-eqb (length bs) 0 (λ z. omega arith), le-ltb (length bs) (4 + two bs 0) l)
 
-sound-not : (s : Step) → F.Sound s ≡ F.Unsound → ⊥
+pub sound-not : (s : Step) → F.Sound s ≡ F.Unsound → ⊥
 sound-not s e = let z : _≡_ {A = ℕ} 0 1 = cc in omega arith
 
 -- ---- steps and their bytes, in two parts
@@ -89,7 +89,7 @@ tells zero [] h b = record { sound = tt; file = refl; last = ended-there }
       where
         by : (f : Found) → View [] f → (s : Step) → f ≡ F.Sound s → ⊥
         by f (empty q) s e = let z : _≡_ {A = ℕ} 0 1 = cc in omega arith
-        by f (past h l) s e = omega arith
+        by f (short h l) s e = omega arith
         by f (whole h l) s e = omega arith
 tells zero (x ∷ bs) h b = absurd (omega arith)
 tells (suc n) bs h b = on (λ s e. tells n (behind bs) (shorter bs s n e h) (bytes-behind bs s b e)) (front bs) refl
@@ -130,7 +130,7 @@ unsound-at bs p u h l e =
     }
 
 -- a whole record is a step or unsound
-either : (P : Found → Type 0) (kind size : ℕ) (bs : List ℕ) → ((s : Step) → P (F.Sound s)) → P F.Unsound → P (stepOf kind size bs)
+pub either : (P : Found → Type 0) (kind size : ℕ) (bs : List ℕ) → ((s : Step) → P (F.Sound s)) → P F.Unsound → P (stepOf kind size bs)
 unfolding stepOf
 either P kind size bs a b =
     by-test P (eqb kind 1) _ _ (λ _. one 2 _) (λ _.
@@ -145,7 +145,7 @@ module _ (bs : List ℕ) (ss : List Step) (rest : List ℕ) (sounds : Sounds ss)
   -- where the steps end: the end of the file, or a record that is cut or unsound
   over-verdict : (f : Found) (d : ℕ) → depth 0 0 ss ≡ Open d → View rest f → ((s : Step) → f ≡ F.Sound s → ⊥) → Verdict bs (judged (length (bytes ss)) (length ss) d [] f)
   unfolding judged
-  over-verdict f d e (past h l) last = cut (length (bytes ss)) (record { upto = upto bs ss rest d e sounds file; some = h; past = l })
+  over-verdict f d e (short h l) last = cut (length (bytes ss)) (record { upto = upto bs ss rest d e sounds file; some = h; past = l })
   over-verdict f d e (empty q) last = at-end ss sounds (file ∙ rw (q, append-nil)) d e
     where
       at-end : (ts : List Step) → Sounds ts → bs ≡ bytes ts → (d : ℕ) → depth 0 0 ts ≡ Open d → Verdict bs (ended (length (bytes ts)) (length ts) d)

@@ -14,17 +14,17 @@ use Rattle.stepfile.specs.declared.Found.the-variants as F
 use Rattle.stepfile.specs.declared.Answer.{Answer}
 use Rattle.stepfile.specs.declared.Answer.the-variants as A
 use Rattle.stepfile.specs.declared.Nodes.the-variants.{Open}
-use Rattle.stepfile.specs.Front.{front, behind}
+use Rattle.stepfile.specs.Front.{two, front, behind}
 use Rattle.stepfile.specs.Answer.{Numbers, says, refuses, numbers}
 use Rattle.stepfile.specs.Nesting.{nests}
 use Rattle.stepfile.specs.File.{fileRead}
 use Rattle.stepfile.specs.OneByOne.{Walked, walked, judged}
-use Rattle.stepfile.specs.Good.{Bytes, Good, Verdict, Verdict.good, holds}
+use Rattle.stepfile.specs.Good.{Bytes, Stands, Stands.nothing, Stands.past, Stands.step, Stands.other, Good, Verdict, Verdict.good, holds}
 use Rattle.stepfile.proofs.Inverse.{read-record, behind-step, record-there}
 use Rattle.stepfile.proofs.Nestings.{ended-good}
 use Rattle.stepfile.proofs.Walks.{agree, reads-steps}
 use Rattle.stepfile.proofs.Depths.{Ends, Ends.over, Ends.broke, ends, reaches-proceeds, nests-depth, depth-nests}
-use Rattle.stepfile.proofs.Conditions.{tells, good-depth, verdict, gives}
+use Rattle.stepfile.proofs.Conditions.{View, View.empty, View.short, View.whole, view, front-cut, front-whole, either, sound-not, tells, good-depth, verdict, gives}
 use Rattle.stepfile.proofs.Cuts.{cut-steps}
 
 -- ---- one answer
@@ -54,6 +54,32 @@ pub given : (bs : List ℕ) (n : Numbers) → Bytes bs → fileRead bs ≡ n →
 given bs n b e = subst (Verdict bs) e (verdict bs b)
 
 -- (`gives` of Conditions is the other way round.)
+
+-- The same of one step: the front is told by what stands there, and what stands there is told.
+module _ (bs : List ℕ) (b : Bytes bs) where
+  pub front-stands : Stands bs (front bs)
+  front-stands = on (front bs) refl (view bs)
+    where
+      on : (f : Found) → front bs ≡ f → View bs f → Stands bs f
+      on f e (empty q) = nothing q
+      on f e (short h l) = past h l
+      on f e (whole h l) =
+          either (λ g. front bs ≡ g → Stands bs g) (two bs 2) (two bs 0) bs
+          (λ s q. let r = record-there bs b s q in step s (behind bs) (r .1) (r .0))
+          (λ q. other h l (λ s more d g. sound-not s (sym (rw g (read-record s more d)) ∙ q)))
+          e
+
+  pub stands-front : (f : Found) → Stands bs f → front bs ≡ f
+  unfolding front
+  stands-front f (nothing q) = rw q
+  stands-front f (past h l) = front-cut bs h l
+  stands-front f (step s more d q) = rw q (read-record s more d)
+  stands-front f (other h l n) =
+      front-whole bs h l
+      ∙ either (λ g. front bs ≡ g → g ≡ F.Unsound) (two bs 2) (two bs 0) bs
+      (λ s q. let r = record-there bs b s q in absurd (n s (behind bs) (r .1) (r .0)))
+      (λ q. refl)
+      (front-whole bs h l)
 
 -- ---- reading is the inverse of writing
 

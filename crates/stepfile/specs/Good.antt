@@ -8,12 +8,22 @@ use lib.ListN.{length, getD, take}
 use Rattle.records.specs.declared.Step.{Step}
 use Rattle.records.specs.declared.Step.the-variants.{Enter, Leave, Token, Error}
 use Rattle.records.specs.Record.{recordOf, bytes, Sound, Sounds}
+use Rattle.stepfile.specs.declared.Found.{Found}
+use Rattle.stepfile.specs.declared.Found.the-variants as F
 use Rattle.stepfile.specs.Front.{two}
 use Rattle.stepfile.specs.Answer.{Numbers, says, refuses}
 
 -- a list of bytes, as what is lent is
 abbrev pub Bytes : List ℕ → Type 0
 Bytes bs = (i : ℕ) → getD bs i 0 < 256
+
+-- What stands at the front: nothing; fewer bytes than the four of a head and those that its length says; the record of a sound step; a whole
+-- record that is none of a sound step.
+pub data Stands (bs : List ℕ) : Found → Type 0 where
+  nothing : bs ≡ [] → Stands bs F.End
+  past : 0 < length bs → length bs < 4 + two bs 0 → Stands bs F.Cut
+  step : (s : Step) (more : List ℕ) → Sound s → bs ≡ recordOf s ++ more → Stands bs (F.Sound s)
+  other : 0 < length bs → 4 + two bs 0 ≤ length bs → ((s : Step) (more : List ℕ) → Sound s → bs ≡ recordOf s ++ more → ⊥) → Stands bs F.Unsound
 
 -- how many nodes some steps enter, and how many they leave: the depth is what the first has above the second
 unfoldable pub enters : List Step → ℕ
