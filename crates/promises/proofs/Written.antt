@@ -19,7 +19,7 @@ use Rattle.events.specs.Answer.{says}
 use Rattle.events.specs.Check.{checked}
 use Rattle.events.specs.Process.{Parent, placed, follow, enters, entered, turn, turns, process, stepsOf}
 use Rattle.events.specs.Resolve.{ends, resolved}
-use Rattle.events.specs.Shape.{need}
+use Rattle.events.specs.Shape.{own, need}
 use Rattle.events.proofs.Passing.{process-need}
 use Rattle.events.proofs.Theorems.{passing-resolves}
 use Rattle.stepfile.specs.Answer as S
@@ -32,25 +32,24 @@ use Rattle.promises.specs.Promised.{Rooted}
 
 -- ---- the steps of any list are sound
 
--- an event whose numbers are those of two words; two words that say no event ask for no step
+-- an event that asks for sound steps itself
 abbrev Fair : Event → Type 0
-Fair (Start k d) = k < 65536
-Fair Finish = Unit {0}
-Fair (Token k n) = (k < 65536) × (0 < n) × (n ≤ 3)
-Fair (Error c x) = (c < 65536) × (x < 65536)
-Fair NoEvent = Unit {0}
+Fair e = Sounds (own e)
 
 abbrev Fairs : List Event → Type 0
 Fairs [] = Unit {0}
 Fairs (e ∷ es) = Fair e × Fairs es
 
+enters-sound : (k : ℕ) → k < 65536 → Sounds (enters k)
+enters-sound k h = by-test Sounds (eqb k 0) [] (enter k ∷ []) (λ _. tt) (λ _. (h, tt))
+
 decode-fair : (a b : ℕ) → Fair (decode a b)
 unfolding decode
 decode-fair a b =
-    by-test Fair (eqb (a / 65536) 1) _ _ (λ _. omega arith) (λ _.
-    by-test Fair (eqb (a / 65536) 2) _ _ (λ _. by-test Fair (eqb (a % 65536) 0) _ _ (λ _. by-test Fair (eqb b 0) _ _ (λ _. tt) (λ _. tt)) (λ _. tt)) (λ _.
-    by-test Fair (eqb (a / 65536) 3) _ _ (λ _. by-test Fair (eqb b 0) _ _ (λ _. tt) (λ z. by-test Fair (leb b 3) _ _ (λ l. (omega arith, omega (arith, eqb-false b 0 z), leb-true b 3 l)) (λ _. tt))) (λ _.
-    by-test Fair (eqb (a / 65536) 4) _ _ (λ _. by-test Fair (ltb b 65536) _ _ (λ l. (omega arith, ltb-true b 65536 l)) (λ _. tt)) (λ _. tt))))
+    by-test Fair (eqb (a / 65536) 1) _ _ (λ _. enters-sound (a % 65536) (omega arith)) (λ _.
+    by-test Fair (eqb (a / 65536) 2) _ _ (λ _. by-test Fair (eqb (a % 65536) 0) _ _ (λ _. by-test Fair (eqb b 0) _ _ (λ _. (tt, tt)) (λ _. tt)) (λ _. tt)) (λ _.
+    by-test Fair (eqb (a / 65536) 3) _ _ (λ _. by-test Fair (eqb b 0) _ _ (λ _. tt) (λ z. by-test Fair (leb b 3) _ _ (λ l. ((omega arith, omega (arith, eqb-false b 0 z), leb-true b 3 l), tt)) (λ _. tt))) (λ _.
+    by-test Fair (eqb (a / 65536) 4) _ _ (λ _. by-test Fair (ltb b 65536) _ _ (λ l. ((omega arith, ltb-true b 65536 l), tt)) (λ _. tt)) (λ _. tt))))
 
 events-fair : (ws : List ℕ) → Fairs (eventsOf ws)
 unfolding eventsOf
@@ -60,34 +59,35 @@ events-fair (a ∷ (b ∷ ws)) = (decode-fair a b, events-fair ws)
 
 abbrev Kinds : List Parent → Type 0
 Kinds [] = Unit {0}
-Kinds (x ∷ xs) = (x .kind < 65536) × Kinds xs
+Kinds (x ∷ xs) = Sounds (enters (x .kind)) × Kinds xs
 
 follow-fair : (p : ℕ) (es : List Event) (d : ℕ) → Fairs es → Kinds (follow p es d .parents) × Fairs (follow p es d .left)
 unfolding follow
 follow-fair p [] zero h = (tt, h)
 follow-fair p [] (suc d) h = (tt, h)
 follow-fair p (e ∷ es) zero h = (tt, h)
-follow-fair p (Start k f ∷ es) (suc zero) h = let r = follow-fair (suc p) es f (h .1) in ((h .0, r .0), (omega arith, r .1))
+follow-fair p (Start k f ∷ es) (suc zero) h = let r = follow-fair (suc p) es f (h .1) in ((h .0, r .0), (tt, r .1))
 follow-fair p (Finish ∷ es) (suc zero) h = (tt, h)
 follow-fair p (Token k n ∷ es) (suc zero) h = (tt, h)
 follow-fair p (Error c x ∷ es) (suc zero) h = (tt, h)
 follow-fair p (NoEvent ∷ es) (suc zero) h = (tt, h)
 follow-fair p (e ∷ es) (suc (suc d)) h = let r = follow-fair (suc p) es (suc d) (h .1) in (r .0, (h .0, r .1))
 
-enters-sound : (p k : ℕ) → k < 65536 → Sounds (stepsOf (placed p (enters k)))
-enters-sound p k h = by-test (λ ss. Sounds (stepsOf (placed p ss))) (eqb k 0) [] (enter k ∷ []) (λ _. tt) (λ _. (h, tt))
+placed-sound : (p : ℕ) (ss : List Step) → Sounds ss → Sounds (stepsOf (placed p ss))
+placed-sound p [] h = tt
+placed-sound p (s ∷ ss) h = (h .0, placed-sound p ss (h .1))
 
 entered-sound : (xs : List Parent) → Kinds xs → Sounds (stepsOf (entered xs))
 unfolding entered
 entered-sound [] h = tt
-entered-sound (x ∷ xs) h = rw map-append (sounds-join (stepsOf (entered xs)) (stepsOf (placed (x .place) (enters (x .kind)))) (entered-sound xs (h .1)) (enters-sound (x .place) (x .kind) (h .0)))
+entered-sound (x ∷ xs) h = rw map-append (sounds-join (stepsOf (entered xs)) (stepsOf (placed (x .place) (enters (x .kind)))) (entered-sound xs (h .1)) (placed-sound (x .place) (enters (x .kind)) (h .0)))
 
 turn-sound : (p : ℕ) (e : Event) (es : List Event) → Fair e → Fairs es → Sounds (stepsOf (turn p e es .steps)) × Fairs (turn p e es .left)
 unfolding turn
 turn-sound p (Start k d) es h g = let r = follow-fair (suc p) es d g in (entered-sound (record { place = p; kind = k } ∷ follow (suc p) es d .parents) (h, r .0), r .1)
-turn-sound p Finish es h g = ((tt, tt), g)
-turn-sound p (Token k n) es h g = ((h, tt), g)
-turn-sound p (Error c x) es h g = ((h, tt), g)
+turn-sound p Finish es h g = (h, g)
+turn-sound p (Token k n) es h g = (h, g)
+turn-sound p (Error c x) es h g = (h, g)
 turn-sound p NoEvent es h g = (tt, g)
 
 turns-sound : (n p : ℕ) (es : List Event) → Fairs es → Sounds (stepsOf (turns n p es .steps))
