@@ -1,45 +1,36 @@
-"""What the proof writers share: the functions of the repository with the form of their contracts, what is known at a place of a
-function's code, and the chain of laws that follows a path through it.
+"""How the code of a production is read, and the chain of laws that follows a path through it: what tools/proofs writes with.
 
 A contract says what its function runs, in one of these forms:
   Does e m s a r    reads tokens, may change the room
   Steps m s a r     reads no token
   Peeks e m p a q   changes no room
-  told              the answer to a test that changes nothing, by a law of its own (TOLD)
+  told              the answer to a test that changes nothing, by a law of its own (TOLD in hints.py)
   pure              any other equation of the result
 A call becomes its law with `.ensures`, a branch or an arm rewrites the goal with what it tells, and what is left ends in `ends`.
-The goal is flattened first (`simp flat`): a definition may nest its blocks as the source does.
+Where a definition nests its blocks as the source does, the goal is flattened first (FLAT in hints.py).
 """
 import glob
 import re
 
 LAWS = {"Does": "then _ _ _ _", "Steps": "step _ _ _ _", "Peeks": "peek _ _ _ _ _"}
-# tests that change nothing: what the contract says, and the law that makes it an act
-TOLD = [("≡ sees ", "see _ _ _ _"), ("≡ goes ", "go _ _ _ _"), ("≡ stopped ", "ask _ _ _"),
-        ("≡ acts.endsHere ", "list-end _ _ _ _"), ("≡ acts.goesHere ", "list-go _ _ _ _")]
 RUNS = ("Does", "Steps", "Peeks")
 
 
 class Fn:
-    def __init__(self, name, ret, params, requires, ensures):
-        self.name, self.ret, self.params, self.requires = name, ret, params, requires
+    """A function of the code, by its head and body."""
+
+    def __init__(self, path, name, params, ret, head, body, told):
+        self.path, self.crate, self.name, self.ret, self.head, self.body = path, path.split("/")[1], name, ret, head, body
+        self.params = [x.strip() for x in params.split(",") if x.strip()]
+        self.requires = re.findall(r"requires \{ (.*?) \}", head)
+        ensures = re.search(r"ensures \{ λ \S+ ⌜ (.*?) ⌝ \}", head, re.S)
+        ensures = ensures.group(1) if ensures else ""
         form = re.match(r"(Does|Steps|Peeks)\b", ensures)
-        self.law = None
-        if form:
-            self.form = form.group(1)
-            self.law = LAWS[self.form]
-        else:
-            told = [law for text, law in TOLD if text in ensures]
-            self.form = "told" if told else "pure"
-            self.law = told[0] if told else None
-        # the definition that the contract names
-        acts = ensures
-        if self.form in ("Does", "Peeks"):
-            acts = re.sub(r"^\w+ \(env .*?\)\)\) ", "", ensures)
-        elif self.form == "Steps":
-            acts = ensures[6:]
-        else:
-            acts = re.sub(r"^r ≡ ", "", ensures)
+        laws = [law for text, law in told if text in ensures]
+        self.form = form.group(1) if form else "told" if laws else "pure"
+        self.law = LAWS[self.form] if form else laws[0] if laws else None
+        # the definition that the contract names, as the code names it
+        acts = re.sub(r"^\w+ \(env .*?\)\)\) |^Steps |^r ≡ ", "", ensures)
         m = re.match(r"\(*([\w.]+)", acts)
         self.acts = m.group(1) if m else None
 
@@ -47,6 +38,54 @@ class Fn:
         """where a call says that the room keeps its length"""
         at = [i for i, p in enumerate(self.params) if "&mut [u32]" in p]
         return " .1" * at[0] + " .0" if at else None
+
+    def reads(self, crate):
+        """the module in which the contract is read, as the proofs of a crate name it"""
+        own = open(self.path, encoding="utf-8").read()
+        at = own.index(self.head)
+        impl = re.findall(r"^impl (\w+)|^(\})", own[:at], re.M)
+        stem = self.path.split("/")[-1][:-3]
+        parts = [stem if stem not in ("lib", "main") else "", impl[-1][0] if impl else "", self.name]
+        lib = "Rattle.%s.proofs" % crate if crate == self.crate else "Rattle.%s.proofs" % self.crate
+        return ".".join([lib] + [x for x in parts if x] + ["Reads"])
+
+    def definition(self):
+        """(module, name) of the definition that the contract names, if it stands in a module that the file names"""
+        if self.acts and "." in self.acts:
+            alias, name = self.acts.split(".")
+            m = re.search(r"ghost use (\S+) as %s;" % alias, open(self.path, encoding="utf-8").read())
+            return (m.group(1), name) if m else None
+        return None
+
+
+def below(crate):
+    """a crate and those of the repository that it reaches"""
+    deps = {}
+    for line in open("crates.txt", encoding="utf-8"):
+        name, _, rest = line.split("#")[0].partition(":")
+        deps[name.strip()] = rest.split()
+    out, todo = [], [crate]
+    while todo:
+        name = todo.pop()
+        if name in deps and name not in out:
+            out.append(name)
+            todo += deps[name]
+    return out
+
+
+def functions(crate, told=()):
+    """name as a proof has it -> [Fn], of a crate and those below it"""
+    out = {}
+    for path in sorted(p for name in below(crate) for p in glob.glob("crates/%s/src/*.rt" % name)):
+        with open(path, encoding="utf-8") as f:
+            text = f.read()
+        for m in re.finditer(r"\bfn (\w+)\(([^)]*)\)(?: -> (\w+))?(.*?)\n\s*\{\n", text, re.S):
+            indent = re.match(r"[ ]*", text[text.rfind("\n", 0, m.start()) + 1:]).group(0)
+            end = re.search(r"\n%s\}\n" % indent, text[m.end() - 1:])
+            body = text[m.end() - 1:m.end() - 1 + end.end()] if end else ""
+            fn = Fn(path, m.group(1), m.group(2), m.group(3), m.group(0), body, told)
+            out.setdefault(m.group(1).replace("_", "-"), []).append(fn)
+    return out
 
 
 def arms(body):
@@ -56,23 +95,7 @@ def arms(body):
     return [len(k.split("|")) for k in keys if k != "_"]
 
 
-def functions():
-    """name as a proof has it -> Fn, of every .rt file of the repository"""
-    out = {}
-    for path in sorted(glob.glob("crates/*/src/*.rt")):
-        with open(path, encoding="utf-8") as f:
-            text = f.read()
-        for m in re.finditer(r"\bfn (\w+)\(([^)]*)\)(?: -> (\w+))?(.*?)\n\s*\{\n", text, re.S):
-            head = m.group(4)
-            ens = re.search(r"ensures \{ λ \S+ ⌜ (.*?) ⌝ \}", head, re.S)
-            fn = Fn(m.group(1), m.group(3), [x.strip() for x in m.group(2).split(",") if x.strip()],
-                    re.findall(r"requires \{ (.*?) \}", head), ens.group(1) if ens else "")
-            fn.path = path
-            end = re.search(r"\n%s\}\n" % re.match(r"[ ]*", text[text.rfind("\n", 0, m.start()) + 1:]).group(0), text[m.end() - 1:])
-            fn.body = text[m.end() - 1:m.end() - 1 + end.end()] if end else ""
-            out.setdefault(m.group(1).replace("_", "-"), []).append(fn)
-    return out
-
+# ---- the places of a function's code, as its generated Lts has them
 
 def places(path):
     """Of a generated Lts: place -> [place before, field], need -> place."""
@@ -110,10 +133,14 @@ def facts(chain, place):
     """[(path, field, place)], first in the code first; and the path of the entry"""
     got, depth, at = [], 0, place
     while at in chain and chain[at][0]:
-        got.append(("c" + " .before" * depth, chain[at][1], at))
+        got.append((back(depth), chain[at][1], at))
         depth += 1
         at = chain[at][0]
-    return got[::-1], "c" + " .before" * depth
+    return got[::-1], back(depth)
+
+
+def back(n, c="c"):
+    return c + " .before" * n
 
 
 def known(place):
@@ -138,11 +165,15 @@ def test_form(lts_text, place, which):
 def pick_fn(fns, field, place, crate):
     """the function that a field of the record of a place tells of"""
     for name in (field, re.sub(r"\d+$", "", field)):
-        for fn in fns.get(name, []):
-            if re.match(r"After-%s\d*$" % re.escape(name), place):
-                own = [f for f in fns[name] if f.path.startswith("crates/%s/" % crate)]
-                return (own or fns[name])[0]
+        if fns.get(name) and re.match(r"After-%s\d*$" % re.escape(name), place):
+            return called(fns, name, crate)
     return None
+
+
+def called(fns, name, crate):
+    """the function of a name: of the crate itself, or else of another"""
+    found = fns.get(name, [])
+    return ([f for f in found if f.crate == crate] or found or [None])[0]
 
 
 def enum_arm(lts_text, place):
@@ -182,17 +213,19 @@ def steps(found, lts_text, fns, crate):
     return out
 
 
+# ---- the chain of laws
+
 FACT = {"true": "{}", "false": "{}", "eq": "eq-eqb _ _ ({})", "ne": "ne-eqb _ _ ({})", "lt": "lt-ltb _ _ ({})", "le": "le-ltb _ _ ({})"}
 
 
 class Chain:
-    """The term for a list of steps, which end in a return of a `ret`; fit: the fit of the state where it begins."""
+    """The term for a list of steps, one law to a line."""
 
     def __init__(self, me, skip=()):
         self.text, self.close, self.pure, self.skip, self.me = "", 0, [], skip, me
 
     def open(self, text):
-        self.text += text + " ("
+        self.text += text + "\n("
         self.close += 1
 
     def flush(self):
@@ -232,11 +265,9 @@ class Chain:
         return self.text + text + ")" * self.close
 
 
-FLAT = "simp (assoc, pick-bind, done-bind)"
-
-
-def chain(me, path, fit, ret, tail_ok=True, skip=(), flat=()):
-    """flat: 'key' or 'match' where the arms of a match are to be flattened, each where more than one call follows"""
+def chain(me, path, fit, ret, law, tail_ok=True, skip=(), flat=()):
+    """The term for a path that ends in a return of a `ret`; fit: the fit of the state where it begins; law: what flattens.
+    flat: 'key' or 'match' where the arms of a match are to be flattened, each where more than one call follows"""
     c = Chain(me, skip)
     runs = [k for k, s in enumerate(path) if s[0] == "call" and s[2].form in RUNS]
     last = runs[-1] if runs else -1
@@ -250,7 +281,12 @@ def chain(me, path, fit, ret, tail_ok=True, skip=(), flat=()):
                 return c.end(body[s[2].form] % s[1])
         c.add(s)
         if {"key": "key", "told": "match"}.get(s[0]) in flat and len([r for r in runs if r > k]) > 1:
-            c.open(FLAT)
+            c.open(law)
+    if tail_ok and ret and path and path[-1][0] == "call" and path[-1][2].form == "pure" and path[-1][2].ret == ret:
+        # what is returned is what a function computes
+        made = c.pure.pop()
+        c.flush()
+        c.open("rw (%s)" % made)
     c.flush()
     return c.end("ends _ _ _ (%s)" % fit)
 
@@ -276,11 +312,24 @@ def kept(path):
     return out
 
 
-def nested(spec_path, name):
+# ---- definitions
+
+def spec_path(module):
+    """the file of a module of a crate's definitions"""
+    m = re.match(r"Rattle·(\w+)(?:·specs)?\.specs\.(\w+)$", module)
+    return "crates/%s/specs/%s.antt" % m.groups() if m else None
+
+
+def definition(path, name):
+    """the text of a definition, from its signature to the next item"""
+    text = open(path, encoding="utf-8").read()
+    m = re.search(r"^( *)((?:unfoldable |abbrev |pub )*)%s :.*?(?=^ *(?:--|unfoldable|abbrev|module|pub|record)|\Z)" % re.escape(name), text, re.M | re.S)
+    return m.group(0) if m else ""
+
+
+def nested(text):
     """whether a definition has a branch that is not the last statement of its block, so that its binds have to be flattened"""
-    text = open(spec_path, encoding="utf-8").read()
-    m = re.search(r"^(\s*)%s\b[^\n]* =(.*?)(?=^\s*(?:--|unfoldable|abbrev|module)|\Z)" % re.escape(name), text, re.M | re.S)
-    lines = m.group(2).split("\n") if m else []
+    lines = text.split("\n")
     for i, line in enumerate(lines):
         b = re.match(r"(\s+)(?:\S+ ← )?(?:pick|when|elim|delimited)\b", line)
         if not b:
@@ -291,6 +340,146 @@ def nested(spec_path, name):
             depth = len(later) - len(later.lstrip())
             if depth < len(b.group(1)):
                 break
-            if depth == len(b.group(1)):
+            if depth == len(b.group(1)) and not later.strip().startswith("]"):
                 return True
     return False
+
+
+# ---- names for places
+
+BEFORE = re.compile(r"(?<![\w.·-])c((?: \.before)*)(?=[ ),\n]|$)")
+FAR = 10  # a path to the entry that is no longer than this is written out
+
+
+class Names:
+    """Names for the places that a function's answers cite. In an answer each is bound by a `let`, from the place after it, under the name that
+    the code's call, branch or loop has there. What many answers share is a definition at the place where their ways part: `entry-P`, the
+    function's entry as seen from the place P, and `kept-P`, that the room has at P the length that it had at the entry."""
+
+    def __init__(self, chain):
+        self.chain = chain
+
+    def way(self, place):
+        """the places back to the entry, from a need's own"""
+        out = [place]
+        while self.chain.get(out[-1], [None])[0]:
+            out.append(self.chain[out[-1]][0])
+        return out
+
+    @staticmethod
+    def meet(ways):
+        """the places where two of the ways meet, or where one begins that another passes"""
+        below = {}
+        for w in ways:
+            for a, b in zip([w] + w, w):
+                below.setdefault(b, set()).add(id(a) if isinstance(a, list) else a)
+        return {p for p in below if len(below[p]) > 1}
+
+    @staticmethod
+    def title(place):
+        """a place in the name of a definition"""
+        place = re.sub(r"^(?:After|At)-", "", place)
+        return re.sub(r"^(Then|Else)(\d+)", lambda m: "if%s-%s" % (m.group(2), "taken" if m.group(1) == "Then" else "left"), place)
+
+    def share(self, answers):
+        """answers: short -> (place, text). The definitions that they share, as (name, place, kind, text), first in the code first."""
+        ways = {s: self.way(p) for s, (p, _) in answers.items()}
+        cites = [w for s, w in ways.items() if any(m.group(1).count(".before") == len(w) - 1 for m in BEFORE.finditer(answers[s][1]))]
+        self.entries = {p for p in self.meet(cites) if len(self.way(p)) - 1 > FAR}
+        rooms, self.room = [], {}
+        for s, (p, text) in answers.items():
+            if s.startswith("same-length"):
+                mine = []
+                for part in text.split(" ∙ "):
+                    m = re.match(r"c((?: \.before)*) (\.\S+) (\.kept(?P<at>(?: \.\d)+)|\.inv \.0)$", part)
+                    if not m:
+                        break
+                    place = ways[s][m.group(1).count(".before")]
+                    self.room[place] = (m.group(2) + " " + m.group(3), m.group(2) + (" .last" + m.group("at") if m.group("at") else " .room"))
+                    mine.append(place)
+                else:
+                    rooms.append(mine)
+        self.keeps = {p for p in self.meet(rooms) if len([w for w in rooms if p in w and w.index(p) < len(w) - 1]) > 1}
+        self.after = {}
+        for w in rooms:
+            for a, b in zip(w, w[1:] + [None]):
+                self.after[a] = b
+        # no entry is further from the next than a path that is written out
+        todo = [p for p in self.entries | self.keeps if len(self.way(p)) - 1 > FAR]
+        while todo:
+            p = todo.pop()
+            self.entries.add(p)
+            w = self.way(p)
+            if len(w) - 1 > FAR and not any(q in self.entries for q in w[1:FAR + 1]):
+                todo += [next((q for q in reversed(w[1:FAR + 1]) if known(q)), w[FAR])]
+        defs = []
+        for p in sorted(self.entries | self.keeps, key=lambda p: (len(self.way(p)), p)):
+            if p in self.entries:
+                defs.append(("entry-" + self.title(p), p, None, self.entry(p, 1)))
+            if p in self.keeps:
+                kind = "length (c %s) ≡ length (%s .args .room .now)" % (self.room[p][1], self.entry(p, 0))
+                defs.append(("kept-" + self.title(p), p, kind, self.kept(p, p, 1)))
+        return defs
+
+    def entry(self, place, start):
+        """the entry as seen from a place"""
+        w = self.way(place)
+        for d in range(start, len(w)):
+            if w[d] in self.entries:
+                return "entry-%s %s" % (self.title(w[d]), "(%s)" % back(d) if d else "c")
+        return back(len(w) - 1)
+
+    def kept(self, place, first, start):
+        """that the room has its length, from a place; first: the nearest place that tells of it"""
+        w, out, at = self.way(place), [], first
+        while at:
+            d = w.index(at)
+            if at in self.keeps and d >= start:
+                out.append("kept-%s %s" % (self.title(at), "(%s)" % back(d) if d else "c"))
+                break
+            out.append("%s %s" % (back(d), self.room[at][0]))
+            at = self.after[at]
+        return " ∙ ".join(out)
+
+    def shared(self, short, place, text):
+        if short.startswith("same-length"):
+            m = BEFORE.match(text)
+            first = m and self.way(place)[m.group(1).count(".before")]
+            if first in self.room:
+                text = self.kept(place, first, 0)
+        n = len(self.way(place)) - 1
+        return BEFORE.sub(lambda m: self.entry(place, 0) if m.group(1).count(".before") == n else m.group(0), text)
+
+    def bound(self, place, text):
+        """`text`, an answer at a place, with a `let` for each place that it cites, where it cites two or more"""
+        depths = sorted({m.group(1).count(".before") for m in BEFORE.finditer(text)} - {0})
+        if len(depths) < 2:
+            return text
+        words = set(re.findall(r"(?<![\w.·-])[a-zA-Z][\w-]*", re.sub(r" \.\S+", "", text)))
+        way, name = self.way(place), {0: "c"}
+        for d in depths:
+            called = self.chain.get(way[d], [None, None])[1] or "entry"
+            while called in words or called in name.values():
+                called += "'"
+            name[d] = called
+        lets, last = [], 0
+        for d in depths:
+            lets.append("let %s = %s in" % (name[d], back(d - last, name[last])))
+            last = d
+        text = BEFORE.sub(lambda m: name[m.group(1).count(".before")], text)
+        return "\n" + "\n".join(lets + [re.sub(r"((?:entry|kept)-\S+) \(([\w'-]+)\)", r"\1 \2", text)])
+
+
+def wrapped(text, width=132):
+    """long lines broken at a space, with what follows further in"""
+    out = []
+    for line in text.split("\n"):
+        deep = " " * (len(line) - len(line.lstrip()) + 4)
+        while len(line) > width and not line.startswith(("use ", "--")):
+            at = line.rfind(" ", len(deep) + 1, width)
+            if at < 0:
+                break
+            out.append(line[:at])
+            line = deep + line[at + 1:]
+        out.append(line)
+    return "\n".join(out)

@@ -1,6 +1,7 @@
+-- Written by tools/proofs from the code, the definitions and hints.py: docs/PRODUCTIONS.md says how to change it.
 -- `args`.
 use borrow.Author.Needs.{needs}
-use Rattle.runtime.proofs.Laws.{then, step, go, ask, ends, Ran, ran-none, ran-more, ran-done, spent-does, falls, left-goes}
+use Rattle.runtime.proofs.Laws.{then, step, go, ends, Ran, ran-none, ran-more, ran-done, spent-does, falls, left-goes}
 use Rattle.grammar.proofs.Laws.{assoc, pick-bind, done-bind}
 use native.Mathlib.Nat.{lt-of-le-of-lt}
 use native.Mathlib.Omega.{arith}
@@ -11,6 +12,9 @@ use Rattle.runtime.specs.State.{view}
 use Rattle.grammar.specs.Operators.{tableOf}
 use Rattle.grammar.specs.Entry.{counted}
 use Prim.Native.Nat.{ℕ}
+use Rattle.cycle.proofs.Depth.{exprBp-spends}
+use Rattle.kinds.specs.Kinds.{R-PAREN, COMMA}
+use Rattle.kinds.specs.Sets.{EXPR-FIRST}
 use Rattle.runtime.specs.Acts as acts
 use Rattle.grammar.specs.Grammar as G
 use Rattle.grammar.specs.Expressions as E
@@ -22,85 +26,237 @@ use Rattle.runtime.proofs.parser.Parser.must.Reads as must-reads
 use Rattle.runtime.proofs.parser.Parser.start.Reads as start-reads
 use Rattle.cycle.proofs.args.Reads as args
 use Rattle.cycle.proofs.expr_bp.Reads as expr-bp
-use Rattle.cycle.proofs.+args+arr+atom+blk+body+bx+call+cast+cplx+ctl+dcal+decl+def+els+expr_bp+fors+gate+gdef+gph+ids+idx+if_stmt+lhs+list+meas+mods+opt+par+post+qarg+rest+ret+scal+set+sig+stmt+sts+subs+sw+tup+type_spec+width.Lts-args as lts
-use Rattle.cycle.proofs.+args+arr+atom+blk+body+bx+call+cast+cplx+ctl+dcal+decl+def+els+expr_bp+fors+gate+gdef+gph+ids+idx+if_stmt+lhs+list+meas+mods+opt+par+post+qarg+rest+ret+scal+set+sig+stmt+sts+subs+sw+tup+type_spec+width.Proof.Frame.{args-at, expr-bp-below}
-use Rattle.cycle.proofs.Depth.{exprBp-spends}
-use Rattle.kinds.specs.Kinds.{R-PAREN, COMMA}
-use Rattle.kinds.specs.Sets.{EXPR-FIRST}
+use Rattle.cycle.proofs.+args+arr+atom+blk+body+bx+call+cast+cplx+ctl+dcal+decl+def+els+expr_bp+fors+gate+gdef+gph+ids+idx+if_stmt+lhs+list+meas+mods+opt+par+post+qarg+rest+ret+scal+set+sig+stmt+sts+subs+sw+tup+type_spec+width as cycle
+use cycle.Lts-args as lts
+use cycle.Proof.Frame.{args-at, expr-bp-below}
+use Rattle.cycle.proofs.args.Kinds as kinds
+use borrow.Fn.Kinds.{In, Out}
 
 -- what the callees ask and give
 abbrev pub calls : ℕ → lts.Claims
-calls t = (must-reads.Asked, must-reads.Learnt, start-reads.Asked, start-reads.Learnt, bump-reads.Asked, bump-reads.Learnt, goes-on-reads.Asked, goes-on-reads.Learnt, expr-bp-below t, expr-bp.Post, args-end-reads.Asked, args-end-reads.Learnt, separator-reads.Asked, separator-reads.Learnt)
+calls t = (
+  must-reads.Asked,
+  must-reads.Learnt,
+  start-reads.Asked,
+  start-reads.Learnt,
+  bump-reads.Asked,
+  bump-reads.Learnt,
+  goes-on-reads.Asked,
+  goes-on-reads.Learnt,
+  expr-bp-below t,
+  expr-bp.Post,
+  args-end-reads.Asked,
+  args-end-reads.Learnt,
+  separator-reads.Asked,
+  separator-reads.Learnt,
+)
 
 abbrev pub Inv-loop : lts.InvT-loop
-Inv-loop kinds joints room₀ mode left m m1 q₀ room q = (length room ≡ length room₀) × Ran (env kinds joints) (G.delimitedRound R-PAREN COMMA EXPR-FIRST (E.expr (counted (tableOf mode) left))) tt (view q₀ room₀) tt (view q room)
+Inv-loop kinds joints room₀ mode left m m1 q₀ room q = (length room ≡ length room₀) × Ran (env kinds joints) (G.delimitedRound
+    R-PAREN COMMA EXPR-FIRST (E.expr (counted (tableOf mode) left))) tt (view q₀ room₀) tt (view q room)
 
 abbrev pub μ-loop : lts.MeasureT-loop
 μ-loop kinds joints room₀ mode left m m1 q₀ room q = acts.left q
 
-pub must-requires : (t : ℕ) → lts.Need-must-requires (calls t) (args-at t) args.Post Inv-loop μ-loop
-must-requires t c κs = c .before .before .before .before .pre .1
+module _ (t : ℕ) where
+  abbrev Here : (lts.Claims → In 3 kinds.ps → Out 3 kinds.ps kinds.r → lts.InvT-loop → lts.MeasureT-loop → Type 0) → Type 0
+  Here X = X (calls t) (args-at t) args.Post Inv-loop μ-loop
 
-pub start-requires : (t : ℕ) → lts.Need-start-requires (calls t) (args-at t) args.Post Inv-loop μ-loop
-start-requires t c κs = c .before .before .before .must .ensures .fit
+  abbrev entry-must : Here lts.After-must → Here lts.Start
+  entry-must c = c .before .before .before .before .before
 
-pub start-requires-2 : (t : ℕ) → lts.Need-start-requires-2 (calls t) (args-at t) args.Post Inv-loop μ-loop
-start-requires-2 t c κs = c .before .before .before .before .start .ensures .fit
+  abbrev entry-p2 : Here lts.After-p2 → Here lts.Start
+  entry-p2 c = entry-must (c .before .before .before .before .before .before .before)
 
-pub bump-requires : (t : ℕ) → lts.Need-bump-requires (calls t) (args-at t) args.Post Inv-loop μ-loop
-bump-requires t c κs = c .before .before .before .before .start2 .ensures .fit
+  abbrev entry-loop : Here lts.At-loop → Here lts.Start
+  entry-loop c = entry-p2 (c .before .before .before .before .before .before .before .before .before .before)
 
-pub loop-holds : (t : ℕ) → lts.Need-loop-holds (calls t) (args-at t) args.Post Inv-loop μ-loop
-loop-holds t c = (refl, ran-none _ _ _ _ (c .before .before .bump .ensures .fit))
+  kept-loop : (c : Here lts.At-loop) → length (c .loop .room) ≡ length (entry-loop c .args .room .now)
+  kept-loop c =
+      let bump = c .before .before .before in
+      let start2 = bump .before .before .before .before .before in
+      let start = start2 .before .before .before .before .before in
+      let must = start .before .before .before .before in
+      c .loop .inv .0 ∙ bump .bump .kept .1 .1 .1 .0 ∙ start2 .start2 .kept .1 .0 ∙ start .start .kept .1 .0 ∙ must .must .kept .1
+      .1 .1 .0
 
-pub goes-on-requires : (t : ℕ) → lts.Need-goes-on-requires (calls t) (args-at t) args.Post Inv-loop μ-loop
-goes-on-requires t c κs = c .loop .inv .1 .3
+  abbrev entry-expr-bp : Here lts.After-expr-bp → Here lts.Start
+  entry-expr-bp c = entry-loop (c .before .before .before .before)
 
-pub expr-bp-requires : (t : ℕ) → lts.Need-expr-bp-requires (calls t) (args-at t) args.Post Inv-loop μ-loop
-expr-bp-requires t c κs = (omega (arith, c .before .before .before .before .before .before .before .before .before .before .before .before .before .before .before .before .before .before .before .before .before .before .before .before .before .pre .0), (c .before .before .before .loop .inv .1 .3, search needs))
+  kept-expr-bp : (c : Here lts.After-expr-bp) → length (c .expr-bp .last .1 .1 .0) ≡ length (entry-expr-bp c .args .room .now)
+  kept-expr-bp c = c .expr-bp .kept .1 .1 .0 ∙ kept-loop (c .before .before .before .before)
 
-pub enum-told : (t : ℕ) → lts.Need-enum-told (calls t) (args-at t) args.Post Inv-loop μ-loop
-enum-told t c = search needs
+  pub must-requires : Here lts.Need-must-requires
+  must-requires c κs = c .before .before .before .before .pre .1
 
-pub enum-told-2 : (t : ℕ) → lts.Need-enum-told-2 (calls t) (args-at t) args.Post Inv-loop μ-loop
-enum-told-2 t c = search needs
+  pub start-requires : Here lts.Need-start-requires
+  start-requires c κs = c .before .before .before .must .ensures .fit
 
-pub args-end-requires : (t : ℕ) → lts.Need-args-end-requires (calls t) (args-at t) args.Post Inv-loop μ-loop
-args-end-requires t c κs = c .before .before .before .before .before .before .expr-bp .ensures .fit
+  pub start-requires-2 : Here lts.Need-start-requires-2
+  start-requires-2 c κs = c .before .before .before .before .start .ensures .fit
 
-pub same-length : (t : ℕ) → lts.Need-same-length (calls t) (args-at t) args.Post Inv-loop μ-loop
-same-length t c = c .before .before .args-end .kept .1 .1 .0 ∙ c .before .before .before .before .before .before .before .before .before .expr-bp .kept .1 .1 .0 ∙ c .before .before .before .before .before .before .before .before .before .before .before .before .before .loop .inv .0 ∙ c .before .before .before .before .before .before .before .before .before .before .before .before .before .before .before .before .bump .kept .1 .1 .1 .0 ∙ c .before .before .before .before .before .before .before .before .before .before .before .before .before .before .before .before .before .before .before .before .before .start2 .kept .1 .0 ∙ c .before .before .before .before .before .before .before .before .before .before .before .before .before .before .before .before .before .before .before .before .before .before .before .before .before .before .start .kept .1 .0 ∙ c .before .before .before .before .before .before .before .before .before .before .before .before .before .before .before .before .before .before .before .before .before .before .before .before .before .before .before .before .before .before .must .kept .1 .1 .1 .0
+  pub bump-requires : Here lts.Need-bump-requires
+  bump-requires c κs = c .before .before .before .before .start2 .ensures .fit
 
-pub returns : (t : ℕ) → lts.Need-returns (calls t) (args-at t) args.Post Inv-loop μ-loop
-unfolding E.callArgList G.delimited G.delimitedRound
-returns t c = simp (assoc, pick-bind, done-bind) (then _ _ _ _ (c .before .before .before .before .before .before .before .before .before .before .before .before .before .before .before .before .before .before .before .before .before .before .before .before .before .before .before .before .before .before .must .ensures) (step _ _ _ _ (c .before .before .before .before .before .before .before .before .before .before .before .before .before .before .before .before .before .before .before .before .before .before .before .before .before .before .start .ensures) (step _ _ _ _ (c .before .before .before .before .before .before .before .before .before .before .before .before .before .before .before .before .before .before .before .before .before .start2 .ensures) (then _ _ _ _ (c .before .before .before .before .before .before .before .before .before .before .before .before .before .before .before .before .bump .ensures) (then _ _ _ _ (ran-done _ _ _ _ _ _ _ _ (c .before .before .before .before .before .before .before .before .before .before .before .before .before .loop .inv .1) (go _ _ _ _ (c .before .before .before .before .before .before .before .before .before .before .before .before .goes-on .ensures) (rw (c .before .before .before .before .before .before .before .before .before .before .before .if1 .taken) (then _ _ _ _ (c .before .before .before .before .before .before .before .before .before .expr-bp .ensures) (rw (c .before .before .before .before .enum-told2 .given .1) (ends _ _ _ (c .before .before .before .before .before .before .before .before .before .expr-bp .ensures .fit))))))) (c .before .before .args-end .ensures))))))
+  pub loop-holds : Here lts.Need-loop-holds
+  loop-holds c = (refl, ran-none _ _ _ _ (c .before .before .bump .ensures .fit))
 
-pub separator-requires : (t : ℕ) → lts.Need-separator-requires (calls t) (args-at t) args.Post Inv-loop μ-loop
-separator-requires t c κs = c .before .before .before .before .before .before .expr-bp .ensures .fit
+  pub goes-on-requires : Here lts.Need-goes-on-requires
+  goes-on-requires c κs = c .loop .inv .1 .3
 
-pub loop-less : (t : ℕ) → lts.Need-loop-less (calls t) (args-at t) args.Post Inv-loop μ-loop
-loop-less t c = lt-of-le-of-lt (spent-does _ _ _ (c .before .before .before .before .separator .ensures)) (falls _ _ _ (exprBp-spends _ _ _ _ _) (left-goes _ _ _ (sym (c .before .before .before .before .before .before .before .before .before .before .before .before .before .before .goes-on .ensures) ∙ c .before .before .before .before .before .before .before .before .before .before .before .before .before .if1 .taken)) (c .before .before .before .before .before .before .before .before .before .before .before .expr-bp .ensures))
+  pub expr-bp-requires : Here lts.Need-expr-bp-requires
+  expr-bp-requires c κs = (
+    omega (arith, entry-loop (c .before .before .before) .pre .0),
+    (
+      c .before .before .before .loop .inv .1
+          .3,
+      search needs,
+    ),
+  )
 
-pub loop-again : (t : ℕ) → lts.Need-loop-again (calls t) (args-at t) args.Post Inv-loop μ-loop
-unfolding E.callArgList G.delimited G.delimitedRound
-loop-again t c = (c .before .before .before .before .separator .kept .1 .1 .0 ∙ c .before .before .before .before .before .before .before .before .before .before .before .expr-bp .kept .1 .1 .0 ∙ c .before .before .before .before .before .before .before .before .before .before .before .before .before .before .before .loop .inv .0, ran-more _ _ _ _ _ _ _ _ (c .before .before .before .before .before .before .before .before .before .before .before .before .before .before .before .loop .inv .1) (go _ _ _ _ (c .before .before .before .before .before .before .before .before .before .before .before .before .before .before .goes-on .ensures) (rw (c .before .before .before .before .before .before .before .before .before .before .before .before .before .if1 .taken) (then _ _ _ _ (c .before .before .before .before .before .before .before .before .before .before .before .expr-bp .ensures) (rw (c .before .before .before .before .before .before .enum-told .given .1) (then _ _ _ _ (c .before .before .before .before .separator .ensures) (rw (c .if2 .taken) (ends _ _ _ (c .before .before .before .before .separator .ensures .fit)))))))) (lt-of-le-of-lt (spent-does _ _ _ (c .before .before .before .before .separator .ensures)) (falls _ _ _ (exprBp-spends _ _ _ _ _) (left-goes _ _ _ (sym (c .before .before .before .before .before .before .before .before .before .before .before .before .before .before .goes-on .ensures) ∙ c .before .before .before .before .before .before .before .before .before .before .before .before .before .if1 .taken)) (c .before .before .before .before .before .before .before .before .before .before .before .expr-bp .ensures))))
+  pub enum-told : Here lts.Need-enum-told
+  enum-told c = search needs
 
-pub args-end-requires-2 : (t : ℕ) → lts.Need-args-end-requires-2 (calls t) (args-at t) args.Post Inv-loop μ-loop
-args-end-requires-2 t c κs = c .before .before .before .before .before .separator .ensures .fit
+  pub enum-told-2 : Here lts.Need-enum-told-2
+  enum-told-2 c = search needs
 
-pub same-length-2 : (t : ℕ) → lts.Need-same-length-2 (calls t) (args-at t) args.Post Inv-loop μ-loop
-same-length-2 t c = c .before .before .args-end2 .kept .1 .1 .0 ∙ c .before .before .before .before .before .before .before .before .separator .kept .1 .1 .0 ∙ c .before .before .before .before .before .before .before .before .before .before .before .before .before .before .before .expr-bp .kept .1 .1 .0 ∙ c .before .before .before .before .before .before .before .before .before .before .before .before .before .before .before .before .before .before .before .loop .inv .0 ∙ c .before .before .before .before .before .before .before .before .before .before .before .before .before .before .before .before .before .before .before .before .before .before .bump .kept .1 .1 .1 .0 ∙ c .before .before .before .before .before .before .before .before .before .before .before .before .before .before .before .before .before .before .before .before .before .before .before .before .before .before .before .start2 .kept .1 .0 ∙ c .before .before .before .before .before .before .before .before .before .before .before .before .before .before .before .before .before .before .before .before .before .before .before .before .before .before .before .before .before .before .before .before .start .kept .1 .0 ∙ c .before .before .before .before .before .before .before .before .before .before .before .before .before .before .before .before .before .before .before .before .before .before .before .before .before .before .before .before .before .before .before .before .before .before .before .before .must .kept .1 .1 .1 .0
+  pub args-end-requires : Here lts.Need-args-end-requires
+  args-end-requires c κs = c .before .before .before .before .before .before .expr-bp .ensures .fit
 
-pub returns-2 : (t : ℕ) → lts.Need-returns-2 (calls t) (args-at t) args.Post Inv-loop μ-loop
-unfolding E.callArgList G.delimited G.delimitedRound
-returns-2 t c = simp (assoc, pick-bind, done-bind) (then _ _ _ _ (c .before .before .before .before .before .before .before .before .before .before .before .before .before .before .before .before .before .before .before .before .before .before .before .before .before .before .before .before .before .before .before .before .before .before .before .before .must .ensures) (step _ _ _ _ (c .before .before .before .before .before .before .before .before .before .before .before .before .before .before .before .before .before .before .before .before .before .before .before .before .before .before .before .before .before .before .before .before .start .ensures) (step _ _ _ _ (c .before .before .before .before .before .before .before .before .before .before .before .before .before .before .before .before .before .before .before .before .before .before .before .before .before .before .before .start2 .ensures) (then _ _ _ _ (c .before .before .before .before .before .before .before .before .before .before .before .before .before .before .before .before .before .before .before .before .before .before .bump .ensures) (then _ _ _ _ (ran-done _ _ _ _ _ _ _ _ (c .before .before .before .before .before .before .before .before .before .before .before .before .before .before .before .before .before .before .before .loop .inv .1) (go _ _ _ _ (c .before .before .before .before .before .before .before .before .before .before .before .before .before .before .before .before .before .before .goes-on .ensures) (rw (c .before .before .before .before .before .before .before .before .before .before .before .before .before .before .before .before .before .if1 .taken) (then _ _ _ _ (c .before .before .before .before .before .before .before .before .before .before .before .before .before .before .before .expr-bp .ensures) (rw (c .before .before .before .before .before .before .before .before .before .before .enum-told .given .1) (then _ _ _ _ (c .before .before .before .before .before .before .before .before .separator .ensures) (rw (c .before .before .before .before .if2 .left) (ends _ _ _ (c .before .before .before .before .before .before .before .before .separator .ensures .fit))))))))) (c .before .before .args-end2 .ensures))))))
+  pub same-length : Here lts.Need-same-length
+  same-length c =
+      let args-end = c .before .before in
+      let expr-bp = args-end .before .before .before .before .before .before .before in
+      args-end .args-end .kept .1 .1 .0 ∙ kept-expr-bp expr-bp
 
-pub args-end-requires-3 : (t : ℕ) → lts.Need-args-end-requires-3 (calls t) (args-at t) args.Post Inv-loop μ-loop
-args-end-requires-3 t c κs = c .before .before .before .loop .inv .1 .3
+  pub returns : Here lts.Need-returns
+  unfolding E.callArgList G.delimited G.delimitedRound
+  returns c =
+      let args-end = c .before .before in
+      let enum-told2 = args-end .before .before in
+      let expr-bp = enum-told2 .before .before .before .before .before in
+      let if1 = expr-bp .before .before in
+      let goes-on = if1 .before in
+      let loop = goes-on .before in
+      let bump = loop .before .before .before in
+      let start2 = bump .before .before .before .before .before in
+      let start = start2 .before .before .before .before .before in
+      let must = start .before .before .before .before in
+      simp (assoc, pick-bind, done-bind)
+      (then _ _ _ _ (must .must .ensures)
+      (step _ _ _ _ (start .start .ensures)
+      (step _ _ _ _ (start2 .start2 .ensures)
+      (then _ _ _ _ (bump .bump .ensures)
+      (then _ _ _ _ (ran-done _ _ _ _ _ _ _ _ (loop .loop .inv .1)
+      (go _ _ _ _ (goes-on .goes-on .ensures)
+      (rw (if1 .if1 .taken)
+      (then _ _ _ _ (expr-bp .expr-bp .ensures)
+      (rw (enum-told2 .enum-told2 .given .1)
+      (ends _ _ _ (expr-bp .expr-bp .ensures .fit)))))))
+      (args-end .args-end .ensures))))))
 
-pub same-length-3 : (t : ℕ) → lts.Need-same-length-3 (calls t) (args-at t) args.Post Inv-loop μ-loop
-same-length-3 t c = c .before .before .args-end3 .kept .1 .1 .0 ∙ c .before .before .before .before .before .before .loop .inv .0 ∙ c .before .before .before .before .before .before .before .before .before .bump .kept .1 .1 .1 .0 ∙ c .before .before .before .before .before .before .before .before .before .before .before .before .before .before .start2 .kept .1 .0 ∙ c .before .before .before .before .before .before .before .before .before .before .before .before .before .before .before .before .before .before .before .start .kept .1 .0 ∙ c .before .before .before .before .before .before .before .before .before .before .before .before .before .before .before .before .before .before .before .before .before .before .before .must .kept .1 .1 .1 .0
+  pub separator-requires : Here lts.Need-separator-requires
+  separator-requires c κs = c .before .before .before .before .before .before .expr-bp .ensures .fit
 
-pub returns-3 : (t : ℕ) → lts.Need-returns-3 (calls t) (args-at t) args.Post Inv-loop μ-loop
-unfolding E.callArgList G.delimited G.delimitedRound
-returns-3 t c = simp (assoc, pick-bind, done-bind) (then _ _ _ _ (c .before .before .before .before .before .before .before .before .before .before .before .before .before .before .before .before .before .before .before .before .before .before .before .must .ensures) (step _ _ _ _ (c .before .before .before .before .before .before .before .before .before .before .before .before .before .before .before .before .before .before .before .start .ensures) (step _ _ _ _ (c .before .before .before .before .before .before .before .before .before .before .before .before .before .before .start2 .ensures) (then _ _ _ _ (c .before .before .before .before .before .before .before .before .before .bump .ensures) (then _ _ _ _ (ran-done _ _ _ _ _ _ _ _ (c .before .before .before .before .before .before .loop .inv .1) (go _ _ _ _ (c .before .before .before .before .before .goes-on .ensures) (rw (c .before .before .before .before .if1 .left) (ends _ _ _ (c .before .before .before .before .before .before .loop .inv .1 .3))))) (c .before .before .args-end3 .ensures))))))
+  pub loop-less : Here lts.Need-loop-less
+  loop-less c =
+      let separator = c .before .before .before .before in
+      let expr-bp = separator .before .before .before .before .before .before .before in
+      let if1 = expr-bp .before .before in
+      let goes-on = if1 .before in
+      lt-of-le-of-lt (spent-does _ _ _ (separator .separator .ensures)) (falls _ _ _ (exprBp-spends _ _ _ _ _) (left-goes _ _ _
+      (sym (goes-on .goes-on .ensures) ∙ if1 .if1 .taken)) (expr-bp .expr-bp .ensures))
+
+  pub loop-again : Here lts.Need-loop-again
+  unfolding E.callArgList G.delimited G.delimitedRound
+  loop-again c =
+      let separator = c .before .before .before .before in
+      let enum-told = separator .before .before in
+      let expr-bp = enum-told .before .before .before .before .before in
+      let if1 = expr-bp .before .before in
+      let goes-on = if1 .before in
+      let loop = goes-on .before in (
+        separator .separator .kept .1 .1 .0 ∙ expr-bp .expr-bp .kept .1 .1 .0 ∙ loop .loop .inv .0,
+        ran-more _ _ _ _ _ _ _ _ (loop
+            .loop .inv .1)
+            (go _ _ _ _ (goes-on .goes-on .ensures)
+            (rw (if1 .if1 .taken)
+            (then _ _ _ _ (expr-bp .expr-bp .ensures)
+            (rw (enum-told .enum-told .given .1)
+            (then _ _ _ _ (separator .separator .ensures)
+            (rw (c .if2 .taken)
+            (ends _ _ _ (separator .separator .ensures .fit))))))))
+            (lt-of-le-of-lt (spent-does _ _ _ (separator .separator .ensures)) (falls _ _ _ (exprBp-spends _ _ _ _ _) (left-goes _ _ _
+            (sym (goes-on .goes-on .ensures) ∙ if1 .if1 .taken)) (expr-bp .expr-bp .ensures))),
+      )
+
+  pub args-end-requires-2 : Here lts.Need-args-end-requires-2
+  args-end-requires-2 c κs = c .before .before .before .before .before .separator .ensures .fit
+
+  pub same-length-2 : Here lts.Need-same-length-2
+  same-length-2 c =
+      let args-end2 = c .before .before in
+      let separator = args-end2 .before .before .before .before .before .before in
+      let expr-bp = separator .before .before .before .before .before .before .before in
+      args-end2 .args-end2 .kept .1 .1 .0 ∙ separator .separator .kept .1 .1 .0 ∙ kept-expr-bp expr-bp
+
+  pub returns-2 : Here lts.Need-returns-2
+  unfolding E.callArgList G.delimited G.delimitedRound
+  returns-2 c =
+      let args-end2 = c .before .before in
+      let if2 = args-end2 .before .before in
+      let separator = if2 .before .before .before .before in
+      let enum-told = separator .before .before in
+      let expr-bp = enum-told .before .before .before .before .before in
+      let if1 = expr-bp .before .before in
+      let goes-on = if1 .before in
+      let loop = goes-on .before in
+      let bump = loop .before .before .before in
+      let start2 = bump .before .before .before .before .before in
+      let start = start2 .before .before .before .before .before in
+      let must = start .before .before .before .before in
+      simp (assoc, pick-bind, done-bind)
+      (then _ _ _ _ (must .must .ensures)
+      (step _ _ _ _ (start .start .ensures)
+      (step _ _ _ _ (start2 .start2 .ensures)
+      (then _ _ _ _ (bump .bump .ensures)
+      (then _ _ _ _ (ran-done _ _ _ _ _ _ _ _ (loop .loop .inv .1)
+      (go _ _ _ _ (goes-on .goes-on .ensures)
+      (rw (if1 .if1 .taken)
+      (then _ _ _ _ (expr-bp .expr-bp .ensures)
+      (rw (enum-told .enum-told .given .1)
+      (then _ _ _ _ (separator .separator .ensures)
+      (rw (if2 .if2 .left)
+      (ends _ _ _ (separator .separator .ensures .fit)))))))))
+      (args-end2 .args-end2 .ensures))))))
+
+  pub args-end-requires-3 : Here lts.Need-args-end-requires-3
+  args-end-requires-3 c κs = c .before .before .before .loop .inv .1 .3
+
+  pub same-length-3 : Here lts.Need-same-length-3
+  same-length-3 c =
+      let args-end3 = c .before .before in
+      let loop = args-end3 .before .before .before .before in
+      args-end3 .args-end3 .kept .1 .1 .0 ∙ kept-loop loop
+
+  pub returns-3 : Here lts.Need-returns-3
+  unfolding E.callArgList G.delimited G.delimitedRound
+  returns-3 c =
+      let args-end3 = c .before .before in
+      let if1 = args-end3 .before .before in
+      let goes-on = if1 .before in
+      let loop = goes-on .before in
+      let bump = loop .before .before .before in
+      let start2 = bump .before .before .before .before .before in
+      let start = start2 .before .before .before .before .before in
+      let must = start .before .before .before .before in
+      simp (assoc, pick-bind, done-bind)
+      (then _ _ _ _ (must .must .ensures)
+      (step _ _ _ _ (start .start .ensures)
+      (step _ _ _ _ (start2 .start2 .ensures)
+      (then _ _ _ _ (bump .bump .ensures)
+      (then _ _ _ _ (ran-done _ _ _ _ _ _ _ _ (loop .loop .inv .1)
+      (go _ _ _ _ (goes-on .goes-on .ensures)
+      (rw (if1 .if1 .left)
+      (ends _ _ _ (loop .loop .inv .1 .3)))))
+      (args-end3 .args-end3 .ensures))))))

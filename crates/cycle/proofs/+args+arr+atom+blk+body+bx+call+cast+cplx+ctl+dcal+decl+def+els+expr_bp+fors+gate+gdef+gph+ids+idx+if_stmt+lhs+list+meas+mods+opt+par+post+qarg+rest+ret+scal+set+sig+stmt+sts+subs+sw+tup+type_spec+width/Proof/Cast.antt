@@ -1,6 +1,7 @@
+-- Written by tools/proofs from the code, the definitions and hints.py: docs/PRODUCTIONS.md says how to change it.
 -- `cast`.
 use borrow.Author.Needs.{needs}
-use Rattle.runtime.proofs.Laws.{then, step, ask, any}
+use Rattle.runtime.proofs.Laws.{then, step, any}
 use native.Mathlib.Omega.{arith}
 use mathlib.Core.Path.{_∙_}
 use Prim.Native.Nat.{ℕ}
@@ -11,34 +12,79 @@ use Rattle.runtime.proofs.parser.Parser.start.Reads as start-reads
 use Rattle.cycle.proofs.cast.Reads as cast
 use Rattle.cycle.proofs.expr_bp.Reads as expr-bp
 use Rattle.cycle.proofs.type_spec.Reads as type-spec
-use Rattle.cycle.proofs.+args+arr+atom+blk+body+bx+call+cast+cplx+ctl+dcal+decl+def+els+expr_bp+fors+gate+gdef+gph+ids+idx+if_stmt+lhs+list+meas+mods+opt+par+post+qarg+rest+ret+scal+set+sig+stmt+sts+subs+sw+tup+type_spec+width.Lts-cast as lts
-use Rattle.cycle.proofs.+args+arr+atom+blk+body+bx+call+cast+cplx+ctl+dcal+decl+def+els+expr_bp+fors+gate+gdef+gph+ids+idx+if_stmt+lhs+list+meas+mods+opt+par+post+qarg+rest+ret+scal+set+sig+stmt+sts+subs+sw+tup+type_spec+width.Proof.Frame.{cast-at, expr-bp-below, type-spec-below}
+use Rattle.cycle.proofs.+args+arr+atom+blk+body+bx+call+cast+cplx+ctl+dcal+decl+def+els+expr_bp+fors+gate+gdef+gph+ids+idx+if_stmt+lhs+list+meas+mods+opt+par+post+qarg+rest+ret+scal+set+sig+stmt+sts+subs+sw+tup+type_spec+width as cycle
+use cycle.Lts-cast as lts
+use cycle.Proof.Frame.{cast-at, expr-bp-below, type-spec-below}
+use Rattle.cycle.proofs.cast.Kinds as kinds
+use borrow.Fn.Kinds.{In, Out}
 
 -- what the callees ask and give
 abbrev pub calls : ℕ → lts.Claims
-calls t = (start-reads.Asked, start-reads.Learnt, type-spec-below t, type-spec.Post, expect-reads.Asked, expect-reads.Learnt, expr-bp-below t, expr-bp.Post, complete-reads.Asked, complete-reads.Learnt)
+calls t = (
+  start-reads.Asked,
+  start-reads.Learnt,
+  type-spec-below t,
+  type-spec.Post,
+  expect-reads.Asked,
+  expect-reads.Learnt,
+  expr-bp-below t,
+  expr-bp.Post,
+  complete-reads.Asked,
+  complete-reads.Learnt,
+)
 
-pub start-requires : (t : ℕ) → lts.Need-start-requires (calls t) (cast-at t) cast.Post
-start-requires t c κs = c .before .before .before .before .pre .1
+module _ (t : ℕ) where
+  abbrev Here : (lts.Claims → In 3 kinds.ps → Out 3 kinds.ps kinds.r → Type 0) → Type 0
+  Here X = X (calls t) (cast-at t) cast.Post
 
-pub type-spec-requires : (t : ℕ) → lts.Need-type-spec-requires (calls t) (cast-at t) cast.Post
-type-spec-requires t c κs = (omega (arith, c .before .before .before .before .before .before .before .before .before .pre .0), c .before .before .before .before .start .ensures .fit)
+  pub start-requires : Here lts.Need-start-requires
+  start-requires c κs = c .before .before .before .before .pre .1
 
-pub expect-requires : (t : ℕ) → lts.Need-expect-requires (calls t) (cast-at t) cast.Post
-expect-requires t c κs = c .before .before .before .type-spec .ensures .fit
+  pub type-spec-requires : Here lts.Need-type-spec-requires
+  type-spec-requires c κs =
+      let start = c .before .before .before .before in
+      let entry = start .before .before .before .before .before in
+      (omega (arith, entry .pre .0), start .start .ensures .fit)
 
-pub expr-bp-requires : (t : ℕ) → lts.Need-expr-bp-requires (calls t) (cast-at t) cast.Post
-expr-bp-requires t c κs = (omega (arith, c .before .before .before .before .before .before .before .before .before .before .before .before .before .before .before .before .before .before .pre .0), (c .before .before .before .before .expect .ensures .fit, search needs))
+  pub expect-requires : Here lts.Need-expect-requires
+  expect-requires c κs = c .before .before .before .type-spec .ensures .fit
 
-pub expect-requires-2 : (t : ℕ) → lts.Need-expect-requires-2 (calls t) (cast-at t) cast.Post
-expect-requires-2 t c κs = c .before .before .before .before .expr-bp .ensures .fit
+  pub expr-bp-requires : Here lts.Need-expr-bp-requires
+  expr-bp-requires c κs =
+      let expect = c .before .before .before .before in
+      let entry = expect .before .before .before .before .before .before .before .before .before .before .before .before .before
+      .before in
+      (omega (arith, entry .pre .0), (expect .expect .ensures .fit, search needs))
 
-pub complete-requires : (t : ℕ) → lts.Need-complete-requires (calls t) (cast-at t) cast.Post
-complete-requires t c κs = c .before .before .before .before .expect2 .ensures .fit
+  pub expect-requires-2 : Here lts.Need-expect-requires-2
+  expect-requires-2 c κs = c .before .before .before .before .expr-bp .ensures .fit
 
-pub same-length : (t : ℕ) → lts.Need-same-length (calls t) (cast-at t) cast.Post
-same-length t c = c .before .before .complete .kept .1 .0 ∙ c .before .before .before .before .before .before .before .expect2 .kept .1 .1 .1 .0 ∙ c .before .before .before .before .before .before .before .before .before .before .before .before .expr-bp .kept .1 .1 .0 ∙ c .before .before .before .before .before .before .before .before .before .before .before .before .before .before .before .before .before .expect .kept .1 .1 .1 .0 ∙ c .before .before .before .before .before .before .before .before .before .before .before .before .before .before .before .before .before .before .before .before .before .type-spec .kept .1 .1 .0 ∙ c .before .before .before .before .before .before .before .before .before .before .before .before .before .before .before .before .before .before .before .before .before .before .before .before .before .before .start .kept .1 .0
+  pub complete-requires : Here lts.Need-complete-requires
+  complete-requires c κs = c .before .before .before .before .expect2 .ensures .fit
 
-pub returns : (t : ℕ) → lts.Need-returns (calls t) (cast-at t) cast.Post
-unfolding A.castExpr
-returns t c = step _ _ _ _ (c .before .before .before .before .before .before .before .before .before .before .before .before .before .before .before .before .before .before .before .before .before .before .before .before .before .before .start .ensures) (then _ _ _ _ (c .before .before .before .before .before .before .before .before .before .before .before .before .before .before .before .before .before .before .before .before .before .type-spec .ensures) (then _ _ _ _ (c .before .before .before .before .before .before .before .before .before .before .before .before .before .before .before .before .before .expect .ensures) (then _ _ _ _ (c .before .before .before .before .before .before .before .before .before .before .before .before .expr-bp .ensures) (then _ _ _ _ (c .before .before .before .before .before .before .before .expect2 .ensures) (any _ _ _ (c .before .before .complete .ensures))))))
+  pub same-length : Here lts.Need-same-length
+  same-length c =
+      let complete = c .before .before in
+      let expect2 = complete .before .before .before .before .before in
+      let expr-bp = expect2 .before .before .before .before .before in
+      let expect = expr-bp .before .before .before .before .before in
+      let type-spec = expect .before .before .before .before in
+      let start = type-spec .before .before .before .before .before in
+      complete .complete .kept .1 .0 ∙ expect2 .expect2 .kept .1 .1 .1 .0 ∙ expr-bp .expr-bp .kept .1 .1 .0 ∙ expect .expect .kept
+      .1 .1 .1 .0 ∙ type-spec .type-spec .kept .1 .1 .0 ∙ start .start .kept .1 .0
+
+  pub returns : Here lts.Need-returns
+  unfolding A.castExpr
+  returns c =
+      let complete = c .before .before in
+      let expect2 = complete .before .before .before .before .before in
+      let expr-bp = expect2 .before .before .before .before .before in
+      let expect = expr-bp .before .before .before .before .before in
+      let type-spec = expect .before .before .before .before in
+      let start = type-spec .before .before .before .before .before in
+      step _ _ _ _ (start .start .ensures)
+      (then _ _ _ _ (type-spec .type-spec .ensures)
+      (then _ _ _ _ (expect .expect .ensures)
+      (then _ _ _ _ (expr-bp .expr-bp .ensures)
+      (then _ _ _ _ (expect2 .expect2 .ensures)
+      (any _ _ _ (complete .complete .ensures))))))

@@ -1,9 +1,11 @@
+-- Written by tools/proofs from the code, the definitions and hints.py: docs/PRODUCTIONS.md says how to change it.
 -- `ctl`.
 use borrow.Author.Needs.{needs}
-use Rattle.runtime.proofs.Laws.{then, step, see, ask, ends}
+use Rattle.runtime.proofs.Laws.{then, step, see, ends}
 use Rattle.grammar.proofs.Laws.{assoc, pick-bind, done-bind}
 use native.Mathlib.Omega.{arith}
-use mathlib.Core.Path.{_∙_}
+use lib.ListN.{length}
+use mathlib.Core.Path.{_≡_, _∙_}
 use Prim.Native.Nat.{ℕ}
 use Rattle.grammar.specs.Atom as A
 use Rattle.grammar.proofs.atom.no_argument.Reads as no-argument-reads
@@ -14,62 +16,148 @@ use Rattle.runtime.proofs.parser.Parser.expect.Reads as expect-reads
 use Rattle.runtime.proofs.parser.Parser.start.Reads as start-reads
 use Rattle.cycle.proofs.ctl.Reads as ctl
 use Rattle.cycle.proofs.expr_bp.Reads as expr-bp
-use Rattle.cycle.proofs.+args+arr+atom+blk+body+bx+call+cast+cplx+ctl+dcal+decl+def+els+expr_bp+fors+gate+gdef+gph+ids+idx+if_stmt+lhs+list+meas+mods+opt+par+post+qarg+rest+ret+scal+set+sig+stmt+sts+subs+sw+tup+type_spec+width.Lts-ctl as lts
-use Rattle.cycle.proofs.+args+arr+atom+blk+body+bx+call+cast+cplx+ctl+dcal+decl+def+els+expr_bp+fors+gate+gdef+gph+ids+idx+if_stmt+lhs+list+meas+mods+opt+par+post+qarg+rest+ret+scal+set+sig+stmt+sts+subs+sw+tup+type_spec+width.Proof.Frame.{ctl-at, expr-bp-below}
+use Rattle.cycle.proofs.+args+arr+atom+blk+body+bx+call+cast+cplx+ctl+dcal+decl+def+els+expr_bp+fors+gate+gdef+gph+ids+idx+if_stmt+lhs+list+meas+mods+opt+par+post+qarg+rest+ret+scal+set+sig+stmt+sts+subs+sw+tup+type_spec+width as cycle
+use cycle.Lts-ctl as lts
+use cycle.Proof.Frame.{ctl-at, expr-bp-below}
+use Rattle.cycle.proofs.ctl.Kinds as kinds
+use borrow.Fn.Kinds.{In, Out}
 
 -- what the callees ask and give
 abbrev pub calls : ℕ → lts.Claims
-calls t = (start-reads.Asked, start-reads.Learnt, bump-reads.Asked, bump-reads.Learnt, at-reads.Asked, at-reads.Learnt, expect-reads.Asked, expect-reads.Learnt, expr-bp-below t, expr-bp.Post, complete-reads.Asked, complete-reads.Learnt, no-argument-reads.Asked, no-argument-reads.Learnt)
+calls t = (
+  start-reads.Asked,
+  start-reads.Learnt,
+  bump-reads.Asked,
+  bump-reads.Learnt,
+  at-reads.Asked,
+  at-reads.Learnt,
+  expect-reads.Asked,
+  expect-reads.Learnt,
+  expr-bp-below t,
+  expr-bp.Post,
+  complete-reads.Asked,
+  complete-reads.Learnt,
+  no-argument-reads.Asked,
+  no-argument-reads.Learnt,
+)
 
-pub start-requires : (t : ℕ) → lts.Need-start-requires (calls t) (ctl-at t) ctl.Post
-start-requires t c κs = c .before .before .before .before .pre .1
+module _ (t : ℕ) where
+  abbrev Here : (lts.Claims → In 3 kinds.ps → Out 3 kinds.ps kinds.r → Type 0) → Type 0
+  Here X = X (calls t) (ctl-at t) ctl.Post
 
-pub bump-requires : (t : ℕ) → lts.Need-bump-requires (calls t) (ctl-at t) ctl.Post
-bump-requires t c κs = c .before .before .before .before .start .ensures .fit
+  kept-bump : (c : Here lts.After-bump) → length (c .bump .last .1 .1 .1 .0) ≡ length (c .before .before .before .before .before
+      .before .before .before .before .before .args .room .now)
+  kept-bump c = c .bump .kept .1 .1 .1 .0 ∙ c .before .before .before .before .before .start .kept .1 .0
 
-pub at-requires : (t : ℕ) → lts.Need-at-requires (calls t) (ctl-at t) ctl.Post
-at-requires t c κs = c .before .before .bump .ensures .fit
+  pub start-requires : Here lts.Need-start-requires
+  start-requires c κs = c .before .before .before .before .pre .1
 
-pub start-requires-2 : (t : ℕ) → lts.Need-start-requires-2 (calls t) (ctl-at t) ctl.Post
-start-requires-2 t c κs = c .before .before .before .before .before .bump .ensures .fit
+  pub bump-requires : Here lts.Need-bump-requires
+  bump-requires c κs = c .before .before .before .before .start .ensures .fit
 
-pub expect-requires : (t : ℕ) → lts.Need-expect-requires (calls t) (ctl-at t) ctl.Post
-expect-requires t c κs = c .before .before .before .before .start2 .ensures .fit
+  pub at-requires : Here lts.Need-at-requires
+  at-requires c κs = c .before .before .bump .ensures .fit
 
-pub expr-bp-requires : (t : ℕ) → lts.Need-expr-bp-requires (calls t) (ctl-at t) ctl.Post
-expr-bp-requires t c κs = (omega (arith, c .before .before .before .before .before .before .before .before .before .before .before .before .before .before .before .before .before .before .before .before .before .before .before .before .before .pre .0), (c .before .before .before .before .expect .ensures .fit, search needs))
+  pub start-requires-2 : Here lts.Need-start-requires-2
+  start-requires-2 c κs = c .before .before .before .before .before .bump .ensures .fit
 
-pub expect-requires-2 : (t : ℕ) → lts.Need-expect-requires-2 (calls t) (ctl-at t) ctl.Post
-expect-requires-2 t c κs = c .before .before .before .before .expr-bp .ensures .fit
+  pub expect-requires : Here lts.Need-expect-requires
+  expect-requires c κs = c .before .before .before .before .start2 .ensures .fit
 
-pub complete-requires : (t : ℕ) → lts.Need-complete-requires (calls t) (ctl-at t) ctl.Post
-complete-requires t c κs = c .before .before .before .before .expect2 .ensures .fit
+  pub expr-bp-requires : Here lts.Need-expr-bp-requires
+  expr-bp-requires c κs =
+      let expect = c .before .before .before .before in
+      let entry = expect .before .before .before .before .before .before .before .before .before .before .before .before .before
+      .before .before .before .before .before .before .before .before in
+      (omega (arith, entry .pre .0), (expect .expect .ensures .fit, search needs))
 
-pub expect-requires-3 : (t : ℕ) → lts.Need-expect-requires-3 (calls t) (ctl-at t) ctl.Post
-expect-requires-3 t c κs = c .before .before .before .before .complete .ensures .fit
+  pub expect-requires-2 : Here lts.Need-expect-requires-2
+  expect-requires-2 c κs = c .before .before .before .before .expr-bp .ensures .fit
 
-pub complete-requires-2 : (t : ℕ) → lts.Need-complete-requires-2 (calls t) (ctl-at t) ctl.Post
-complete-requires-2 t c κs = c .before .before .before .before .expect3 .ensures .fit
+  pub complete-requires : Here lts.Need-complete-requires
+  complete-requires c κs = c .before .before .before .before .expect2 .ensures .fit
 
-pub same-length : (t : ℕ) → lts.Need-same-length (calls t) (ctl-at t) ctl.Post
-same-length t c = c .before .before .before .complete2 .kept .1 .0 ∙ c .before .before .before .before .before .before .before .before .expect3 .kept .1 .1 .1 .0 ∙ c .before .before .before .before .before .before .before .before .before .before .before .before .before .complete .kept .1 .0 ∙ c .before .before .before .before .before .before .before .before .before .before .before .before .before .before .before .before .before .before .expect2 .kept .1 .1 .1 .0 ∙ c .before .before .before .before .before .before .before .before .before .before .before .before .before .before .before .before .before .before .before .before .before .before .before .expr-bp .kept .1 .1 .0 ∙ c .before .before .before .before .before .before .before .before .before .before .before .before .before .before .before .before .before .before .before .before .before .before .before .before .before .before .before .before .expect .kept .1 .1 .1 .0 ∙ c .before .before .before .before .before .before .before .before .before .before .before .before .before .before .before .before .before .before .before .before .before .before .before .before .before .before .before .before .before .before .before .before .before .start2 .kept .1 .0 ∙ c .before .before .before .before .before .before .before .before .before .before .before .before .before .before .before .before .before .before .before .before .before .before .before .before .before .before .before .before .before .before .before .before .before .before .before .before .before .before .before .bump .kept .1 .1 .1 .0 ∙ c .before .before .before .before .before .before .before .before .before .before .before .before .before .before .before .before .before .before .before .before .before .before .before .before .before .before .before .before .before .before .before .before .before .before .before .before .before .before .before .before .before .before .before .before .start .kept .1 .0
+  pub expect-requires-3 : Here lts.Need-expect-requires-3
+  expect-requires-3 c κs = c .before .before .before .before .complete .ensures .fit
 
-pub returns : (t : ℕ) → lts.Need-returns (calls t) (ctl-at t) ctl.Post
-unfolding A.modifier
-returns t c = simp (assoc, pick-bind, done-bind) (step _ _ _ _ (c .before .before .before .before .before .before .before .before .before .before .before .before .before .before .before .before .before .before .before .before .before .before .before .before .before .before .before .before .before .before .before .before .before .before .before .before .before .before .before .before .before .before .before .before .start .ensures) (then _ _ _ _ (c .before .before .before .before .before .before .before .before .before .before .before .before .before .before .before .before .before .before .before .before .before .before .before .before .before .before .before .before .before .before .before .before .before .before .before .before .before .before .before .bump .ensures) (see _ _ _ _ (c .before .before .before .before .before .before .before .before .before .before .before .before .before .before .before .before .before .before .before .before .before .before .before .before .before .before .before .before .before .before .before .before .before .before .before .before .at .ensures) (rw (c .before .before .before .before .before .before .before .before .before .before .before .before .before .before .before .before .before .before .before .before .before .before .before .before .before .before .before .before .before .before .before .before .before .before .before .if1 .taken) (step _ _ _ _ (c .before .before .before .before .before .before .before .before .before .before .before .before .before .before .before .before .before .before .before .before .before .before .before .before .before .before .before .before .before .before .before .before .before .start2 .ensures) (then _ _ _ _ (c .before .before .before .before .before .before .before .before .before .before .before .before .before .before .before .before .before .before .before .before .before .before .before .before .before .before .before .before .expect .ensures) (then _ _ _ _ (c .before .before .before .before .before .before .before .before .before .before .before .before .before .before .before .before .before .before .before .before .before .before .before .expr-bp .ensures) (then _ _ _ _ (c .before .before .before .before .before .before .before .before .before .before .before .before .before .before .before .before .before .before .expect2 .ensures) (step _ _ _ _ (c .before .before .before .before .before .before .before .before .before .before .before .before .before .complete .ensures) (then _ _ _ _ (c .before .before .before .before .before .before .before .before .expect3 .ensures) (step _ _ _ _ (c .before .before .before .complete2 .ensures) (ends _ _ _ (c .before .before .before .complete2 .ensures .fit)))))))))))))
+  pub complete-requires-2 : Here lts.Need-complete-requires-2
+  complete-requires-2 c κs = c .before .before .before .before .expect3 .ensures .fit
 
-pub no-argument-requires : (t : ℕ) → lts.Need-no-argument-requires (calls t) (ctl-at t) ctl.Post
-no-argument-requires t c κs = c .before .before .before .before .before .bump .ensures .fit
+  pub same-length : Here lts.Need-same-length
+  same-length c =
+      let complete2 = c .before .before .before in
+      let expect3 = complete2 .before .before .before .before .before in
+      let complete = expect3 .before .before .before .before .before in
+      let expect2 = complete .before .before .before .before .before in
+      let expr-bp = expect2 .before .before .before .before .before in
+      let expect = expr-bp .before .before .before .before .before in
+      let start2 = expect .before .before .before .before .before in
+      let bump = start2 .before .before .before .before .before .before in
+      complete2 .complete2 .kept .1 .0 ∙ expect3 .expect3 .kept .1 .1 .1 .0 ∙ complete .complete .kept .1 .0 ∙ expect2 .expect2
+      .kept .1 .1 .1 .0 ∙ expr-bp .expr-bp .kept .1 .1 .0 ∙ expect .expect .kept .1 .1 .1 .0 ∙ start2 .start2 .kept .1 .0 ∙
+      kept-bump bump
 
-pub expect-requires-4 : (t : ℕ) → lts.Need-expect-requires-4 (calls t) (ctl-at t) ctl.Post
-expect-requires-4 t c κs = c .before .before .before .no-argument .ensures .fit
+  pub returns : Here lts.Need-returns
+  unfolding A.modifier
+  returns c =
+      let complete2 = c .before .before .before in
+      let expect3 = complete2 .before .before .before .before .before in
+      let complete = expect3 .before .before .before .before .before in
+      let expect2 = complete .before .before .before .before .before in
+      let expr-bp = expect2 .before .before .before .before .before in
+      let expect = expr-bp .before .before .before .before .before in
+      let start2 = expect .before .before .before .before .before in
+      let if1 = start2 .before .before in
+      let at = if1 .before in
+      let bump = at .before .before .before in
+      let start = bump .before .before .before .before .before in
+      simp (assoc, pick-bind, done-bind)
+      (step _ _ _ _ (start .start .ensures)
+      (then _ _ _ _ (bump .bump .ensures)
+      (see _ _ _ _ (at .at .ensures)
+      (rw (if1 .if1 .taken)
+      (step _ _ _ _ (start2 .start2 .ensures)
+      (then _ _ _ _ (expect .expect .ensures)
+      (then _ _ _ _ (expr-bp .expr-bp .ensures)
+      (then _ _ _ _ (expect2 .expect2 .ensures)
+      (step _ _ _ _ (complete .complete .ensures)
+      (then _ _ _ _ (expect3 .expect3 .ensures)
+      (step _ _ _ _ (complete2 .complete2 .ensures)
+      (ends _ _ _ (complete2 .complete2 .ensures .fit)))))))))))))
 
-pub complete-requires-3 : (t : ℕ) → lts.Need-complete-requires-3 (calls t) (ctl-at t) ctl.Post
-complete-requires-3 t c κs = c .before .before .before .before .expect4 .ensures .fit
+  pub no-argument-requires : Here lts.Need-no-argument-requires
+  no-argument-requires c κs = c .before .before .before .before .before .bump .ensures .fit
 
-pub same-length-2 : (t : ℕ) → lts.Need-same-length-2 (calls t) (ctl-at t) ctl.Post
-same-length-2 t c = c .before .before .before .complete3 .kept .1 .0 ∙ c .before .before .before .before .before .before .before .before .expect4 .kept .1 .1 .1 .0 ∙ c .before .before .before .before .before .before .before .before .before .before .before .before .no-argument .kept .0 ∙ c .before .before .before .before .before .before .before .before .before .before .before .before .before .before .before .before .before .before .bump .kept .1 .1 .1 .0 ∙ c .before .before .before .before .before .before .before .before .before .before .before .before .before .before .before .before .before .before .before .before .before .before .before .start .kept .1 .0
+  pub expect-requires-4 : Here lts.Need-expect-requires-4
+  expect-requires-4 c κs = c .before .before .before .no-argument .ensures .fit
 
-pub returns-2 : (t : ℕ) → lts.Need-returns-2 (calls t) (ctl-at t) ctl.Post
-unfolding A.modifier
-returns-2 t c = simp (assoc, pick-bind, done-bind) (step _ _ _ _ (c .before .before .before .before .before .before .before .before .before .before .before .before .before .before .before .before .before .before .before .before .before .before .before .start .ensures) (then _ _ _ _ (c .before .before .before .before .before .before .before .before .before .before .before .before .before .before .before .before .before .before .bump .ensures) (see _ _ _ _ (c .before .before .before .before .before .before .before .before .before .before .before .before .before .before .before .at .ensures) (rw (c .before .before .before .before .before .before .before .before .before .before .before .before .before .before .if1 .left) (step _ _ _ _ (c .before .before .before .before .before .before .before .before .before .before .before .before .no-argument .ensures) (then _ _ _ _ (c .before .before .before .before .before .before .before .before .expect4 .ensures) (step _ _ _ _ (c .before .before .before .complete3 .ensures) (ends _ _ _ (c .before .before .before .complete3 .ensures .fit)))))))))
+  pub complete-requires-3 : Here lts.Need-complete-requires-3
+  complete-requires-3 c κs = c .before .before .before .before .expect4 .ensures .fit
+
+  pub same-length-2 : Here lts.Need-same-length-2
+  same-length-2 c =
+      let complete3 = c .before .before .before in
+      let expect4 = complete3 .before .before .before .before .before in
+      let no-argument = expect4 .before .before .before .before in
+      let bump = no-argument .before .before .before .before .before .before in
+      complete3 .complete3 .kept .1 .0 ∙ expect4 .expect4 .kept .1 .1 .1 .0 ∙ no-argument .no-argument .kept .0 ∙ kept-bump bump
+
+  pub returns-2 : Here lts.Need-returns-2
+  unfolding A.modifier
+  returns-2 c =
+      let complete3 = c .before .before .before in
+      let expect4 = complete3 .before .before .before .before .before in
+      let no-argument = expect4 .before .before .before .before in
+      let if1 = no-argument .before .before in
+      let at = if1 .before in
+      let bump = at .before .before .before in
+      let start = bump .before .before .before .before .before in
+      simp (assoc, pick-bind, done-bind)
+      (step _ _ _ _ (start .start .ensures)
+      (then _ _ _ _ (bump .bump .ensures)
+      (see _ _ _ _ (at .at .ensures)
+      (rw (if1 .if1 .left)
+      (step _ _ _ _ (no-argument .no-argument .ensures)
+      (then _ _ _ _ (expect4 .expect4 .ensures)
+      (step _ _ _ _ (complete3 .complete3 .ensures)
+      (ends _ _ _ (complete3 .complete3 .ensures .fit)))))))))

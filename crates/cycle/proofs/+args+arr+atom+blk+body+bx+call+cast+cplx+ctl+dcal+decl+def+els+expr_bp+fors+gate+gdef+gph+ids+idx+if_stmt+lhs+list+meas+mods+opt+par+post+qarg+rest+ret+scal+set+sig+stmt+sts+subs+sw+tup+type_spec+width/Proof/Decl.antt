@@ -1,9 +1,11 @@
+-- Written by tools/proofs from the code, the definitions and hints.py: docs/PRODUCTIONS.md says how to change it.
 -- `decl`.
 use borrow.Author.Needs.{needs}
-use Rattle.runtime.proofs.Laws.{then, step, peek, see, ask, any, ends}
+use Rattle.runtime.proofs.Laws.{then, step, peek, see, any, ends}
 use borrow.Author.Tests.{ne-eqb, eq-eqb}
 use native.Mathlib.Omega.{arith}
-use mathlib.Core.Path.{_∙_}
+use lib.ListN.{length}
+use mathlib.Core.Path.{_≡_, _∙_}
 use Prim.Native.Nat.{ℕ}
 use Rattle.grammar.specs.Items as I
 use Rattle.grammar.proofs.expressions.var_name.Reads as var-name-reads
@@ -17,107 +19,342 @@ use Rattle.runtime.proofs.parser.Parser.start.Reads as start-reads
 use Rattle.cycle.proofs.decl.Reads as decl
 use Rattle.cycle.proofs.expr_bp.Reads as expr-bp
 use Rattle.cycle.proofs.type_spec.Reads as type-spec
-use Rattle.cycle.proofs.+args+arr+atom+blk+body+bx+call+cast+cplx+ctl+dcal+decl+def+els+expr_bp+fors+gate+gdef+gph+ids+idx+if_stmt+lhs+list+meas+mods+opt+par+post+qarg+rest+ret+scal+set+sig+stmt+sts+subs+sw+tup+type_spec+width.Lts-decl as lts
-use Rattle.cycle.proofs.+args+arr+atom+blk+body+bx+call+cast+cplx+ctl+dcal+decl+def+els+expr_bp+fors+gate+gdef+gph+ids+idx+if_stmt+lhs+list+meas+mods+opt+par+post+qarg+rest+ret+scal+set+sig+stmt+sts+subs+sw+tup+type_spec+width.Proof.Frame.{decl-at, expr-bp-below, type-spec-below}
+use Rattle.cycle.proofs.+args+arr+atom+blk+body+bx+call+cast+cplx+ctl+dcal+decl+def+els+expr_bp+fors+gate+gdef+gph+ids+idx+if_stmt+lhs+list+meas+mods+opt+par+post+qarg+rest+ret+scal+set+sig+stmt+sts+subs+sw+tup+type_spec+width as cycle
+use cycle.Lts-decl as lts
+use cycle.Proof.Frame.{decl-at, expr-bp-below, type-spec-below}
+use Rattle.cycle.proofs.decl.Kinds as kinds
+use borrow.Fn.Kinds.{In, Out}
 
 -- what the callees ask and give
 abbrev pub calls : ℕ → lts.Claims
-calls t = (eat-reads.Asked, eat-reads.Learnt, start-reads.Asked, start-reads.Learnt, type-spec-below t, type-spec.Post, current-reads.Asked, current-reads.Learnt, expect-reads.Asked, expect-reads.Learnt, expr-bp-below t, expr-bp.Post, complete-reads.Asked, complete-reads.Learnt, at-reads.Asked, at-reads.Learnt, abandon-reads.Asked, abandon-reads.Learnt, var-name-reads.Asked, var-name-reads.Learnt)
+calls t = (
+  eat-reads.Asked,
+  eat-reads.Learnt,
+  start-reads.Asked,
+  start-reads.Learnt,
+  type-spec-below t,
+  type-spec.Post,
+  current-reads.Asked,
+  current-reads.Learnt,
+  expect-reads.Asked,
+  expect-reads.Learnt,
+  expr-bp-below t,
+  expr-bp.Post,
+  complete-reads.Asked,
+  complete-reads.Learnt,
+  at-reads.Asked,
+  at-reads.Learnt,
+  abandon-reads.Asked,
+  abandon-reads.Learnt,
+  var-name-reads.Asked,
+  var-name-reads.Learnt,
+)
 
-pub eat-requires : (t : ℕ) → lts.Need-eat-requires (calls t) (decl-at t) decl.Post
-eat-requires t c κs = c .before .before .before .before .pre .1
+module _ (t : ℕ) where
+  abbrev Here : (lts.Claims → In 3 kinds.ps → Out 3 kinds.ps kinds.r → Type 0) → Type 0
+  Here X = X (calls t) (decl-at t) decl.Post
 
-pub start-requires : (t : ℕ) → lts.Need-start-requires (calls t) (decl-at t) decl.Post
-start-requires t c κs = c .before .before .before .before .eat .ensures .fit
+  abbrev entry-eat : Here lts.After-eat → Here lts.Start
+  entry-eat c = c .before .before .before .before .before
 
-pub type-spec-requires : (t : ℕ) → lts.Need-type-spec-requires (calls t) (decl-at t) decl.Post
-type-spec-requires t c κs = (omega (arith, c .before .before .before .before .before .before .before .before .before .before .before .before .before .before .pre .0), c .before .before .before .before .start .ensures .fit)
+  abbrev entry-type-spec-arg : Here lts.After-type-spec-arg → Here lts.Start
+  entry-type-spec-arg c = entry-eat (c .before .before .before .before .before .before .before .before .before)
 
-pub current-requires : (t : ℕ) → lts.Need-current-requires (calls t) (decl-at t) decl.Post
-current-requires t c κs = c .before .before .type-spec .ensures .fit
+  abbrev entry-type-spec : Here lts.After-type-spec → Here lts.Start
+  entry-type-spec c = entry-type-spec-arg (c .before)
 
-pub expect-requires : (t : ℕ) → lts.Need-expect-requires (calls t) (decl-at t) decl.Post
-expect-requires t c κs = c .before .before .before .before .current .ensures .fit
+  kept-type-spec : (c : Here lts.After-type-spec) → length (c .type-spec .last .1 .1 .0) ≡ length (entry-type-spec c .args .room
+      .now)
+  kept-type-spec c =
+      let start = c .before .before .before .before .before in
+      let eat = start .before .before .before .before .before in
+      c .type-spec .kept .1 .1 .0 ∙ start .start .kept .1 .0 ∙ eat .eat .kept .1 .1 .1 .0
 
-pub expr-bp-requires : (t : ℕ) → lts.Need-expr-bp-requires (calls t) (decl-at t) decl.Post
-expr-bp-requires t c κs = (omega (arith, c .before .before .before .before .before .before .before .before .before .before .before .before .before .before .before .before .before .before .before .before .before .before .before .before .before .before .before .pre .0), (c .before .before .before .before .expect .ensures .fit, search needs))
+  abbrev entry-struct-known : Here lts.After-struct-known → Here lts.Start
+  entry-struct-known c = entry-type-spec (c .before .before .before .before .before)
 
-pub expect-requires-2 : (t : ℕ) → lts.Need-expect-requires-2 (calls t) (decl-at t) decl.Post
-expect-requires-2 t c κs = c .before .before .before .before .expr-bp .ensures .fit
+  abbrev entry-if1-left : Here lts.Else1 → Here lts.Start
+  entry-if1-left c = entry-struct-known (c .before)
 
-pub complete-requires : (t : ℕ) → lts.Need-complete-requires (calls t) (decl-at t) decl.Post
-complete-requires t c κs = c .before .before .before .before .expect2 .ensures .fit
+  abbrev entry-expr-bp : Here lts.After-expr-bp → Here lts.Start
+  entry-expr-bp c = entry-struct-known (c .before .before .before .before .before .before .before .before)
 
-pub at-requires : (t : ℕ) → lts.Need-at-requires (calls t) (decl-at t) decl.Post
-at-requires t c κs = c .before .before .before .complete .ensures .fit
+  abbrev entry-eat2 : Here lts.After-eat2 → Here lts.Start
+  entry-eat2 c = entry-if1-left (c .before .before .before .before .before .before .before .before .before .before)
 
-pub expect-requires-3 : (t : ℕ) → lts.Need-expect-requires-3 (calls t) (decl-at t) decl.Post
-expect-requires-3 t c κs = c .before .before .before .before .before .before .complete .ensures .fit
+  kept-eat2 : (c : Here lts.After-eat2) → length (c .eat2 .last .1 .1 .1 .0) ≡ length (entry-eat2 c .args .room .now)
+  kept-eat2 c =
+      let var-name = c .before .before .before .before in
+      let abandon2 = var-name .before .before .before .before in
+      let type-spec = abandon2 .before .before .before .before .before .before .before .before in
+      c .eat2 .kept .1 .1 .1 .0 ∙ var-name .var-name .kept .1 .1 .0 ∙ abandon2 .abandon2 .kept .1 .0 ∙ kept-type-spec type-spec
 
-pub complete-requires-2 : (t : ℕ) → lts.Need-complete-requires-2 (calls t) (decl-at t) decl.Post
-complete-requires-2 t c κs = c .before .before .before .before .expect3 .ensures .fit
+  abbrev entry-expect4 : Here lts.After-expect4 → Here lts.Start
+  entry-expect4 c = entry-eat2 (c .before .before .before .before .before .before)
 
-pub same-length : (t : ℕ) → lts.Need-same-length (calls t) (decl-at t) decl.Post
-same-length t c = c .before .before .before .complete2 .kept .1 .0 ∙ c .before .before .before .before .before .before .before .before .expect3 .kept .1 .1 .1 .0 ∙ c .before .before .before .before .before .before .before .before .before .before .before .before .before .before .before .complete .kept .1 .0 ∙ c .before .before .before .before .before .before .before .before .before .before .before .before .before .before .before .before .before .before .before .before .expect2 .kept .1 .1 .1 .0 ∙ c .before .before .before .before .before .before .before .before .before .before .before .before .before .before .before .before .before .before .before .before .before .before .before .before .before .expr-bp .kept .1 .1 .0 ∙ c .before .before .before .before .before .before .before .before .before .before .before .before .before .before .before .before .before .before .before .before .before .before .before .before .before .before .before .before .before .before .expect .kept .1 .1 .1 .0 ∙ c .before .before .before .before .before .before .before .before .before .before .before .before .before .before .before .before .before .before .before .before .before .before .before .before .before .before .before .before .before .before .before .before .before .before .before .before .before .before .type-spec .kept .1 .1 .0 ∙ c .before .before .before .before .before .before .before .before .before .before .before .before .before .before .before .before .before .before .before .before .before .before .before .before .before .before .before .before .before .before .before .before .before .before .before .before .before .before .before .before .before .before .before .start .kept .1 .0 ∙ c .before .before .before .before .before .before .before .before .before .before .before .before .before .before .before .before .before .before .before .before .before .before .before .before .before .before .before .before .before .before .before .before .before .before .before .before .before .before .before .before .before .before .before .before .before .before .before .before .eat .kept .1 .1 .1 .0
+  kept-expect4 : (c : Here lts.After-expect4) → length (c .expect4 .last .1 .1 .1 .0) ≡ length (entry-expect4 c .args .room .now)
+  kept-expect4 c = c .expect4 .kept .1 .1 .1 .0 ∙ kept-eat2 (c .before .before .before .before .before .before)
 
-pub returns : (t : ℕ) → lts.Need-returns (calls t) (decl-at t) decl.Post
-unfolding I.classicalDeclarationStmt
-returns t c = then _ _ _ _ (c .before .before .before .before .before .before .before .before .before .before .before .before .before .before .before .before .before .before .before .before .before .before .before .before .before .before .before .before .before .before .before .before .before .before .before .before .before .before .before .before .before .before .before .before .before .before .before .before .eat .ensures) (step _ _ _ _ (c .before .before .before .before .before .before .before .before .before .before .before .before .before .before .before .before .before .before .before .before .before .before .before .before .before .before .before .before .before .before .before .before .before .before .before .before .before .before .before .before .before .before .before .start .ensures) (then _ _ _ _ (c .before .before .before .before .before .before .before .before .before .before .before .before .before .before .before .before .before .before .before .before .before .before .before .before .before .before .before .before .before .before .before .before .before .before .before .before .before .before .type-spec .ensures) (peek _ _ _ _ _ (c .before .before .before .before .before .before .before .before .before .before .before .before .before .before .before .before .before .before .before .before .before .before .before .before .before .before .before .before .before .before .before .before .before .before .before .current .ensures) (rw (eq-eqb _ _ (c .before .before .before .before .before .before .before .before .before .before .before .before .before .before .before .before .before .before .before .before .before .before .before .before .before .before .before .before .before .before .before .before .if1 .taken)) (then _ _ _ _ (c .before .before .before .before .before .before .before .before .before .before .before .before .before .before .before .before .before .before .before .before .before .before .before .before .before .before .before .before .before .before .expect .ensures) (then _ _ _ _ (c .before .before .before .before .before .before .before .before .before .before .before .before .before .before .before .before .before .before .before .before .before .before .before .before .before .expr-bp .ensures) (then _ _ _ _ (c .before .before .before .before .before .before .before .before .before .before .before .before .before .before .before .before .before .before .before .before .expect2 .ensures) (step _ _ _ _ (c .before .before .before .before .before .before .before .before .before .before .before .before .before .before .before .complete .ensures) (see _ _ _ _ (c .before .before .before .before .before .before .before .before .before .before .before .at .ensures) (rw (c .before .before .before .before .before .before .before .before .before .before .if2 .taken) (then _ _ _ _ (c .before .before .before .before .before .before .before .before .expect3 .ensures) (step _ _ _ _ (c .before .before .before .complete2 .ensures) (ends _ _ _ (c .before .before .before .complete2 .ensures .fit))))))))))))))
+  abbrev entry-complete : Here lts.After-complete → Here lts.Start
+  entry-complete c = entry-expr-bp (c .before .before .before .before .before .before .before .before .before .before)
 
-pub abandon-requires : (t : ℕ) → lts.Need-abandon-requires (calls t) (decl-at t) decl.Post
-abandon-requires t c κs = c .before .before .before .before .before .before .complete .ensures .fit
+  kept-complete : (c : Here lts.After-complete) → length (c .complete .last .1 .0) ≡ length (entry-complete c .args .room .now)
+  kept-complete c =
+      let expect2 = c .before .before .before .before .before in
+      let expr-bp = expect2 .before .before .before .before .before in
+      let expect = expr-bp .before .before .before .before .before in
+      let type-spec = expect .before .before .before .before .before .before .before .before in
+      c .complete .kept .1 .0 ∙ expect2 .expect2 .kept .1 .1 .1 .0 ∙ expr-bp .expr-bp .kept .1 .1 .0 ∙ expect .expect .kept .1 .1
+      .1 .0 ∙ kept-type-spec type-spec
 
-pub same-length-2 : (t : ℕ) → lts.Need-same-length-2 (calls t) (decl-at t) decl.Post
-same-length-2 t c = c .before .before .abandon .kept .1 .0 ∙ c .before .before .before .before .before .before .before .before .before .complete .kept .1 .0 ∙ c .before .before .before .before .before .before .before .before .before .before .before .before .before .before .expect2 .kept .1 .1 .1 .0 ∙ c .before .before .before .before .before .before .before .before .before .before .before .before .before .before .before .before .before .before .before .expr-bp .kept .1 .1 .0 ∙ c .before .before .before .before .before .before .before .before .before .before .before .before .before .before .before .before .before .before .before .before .before .before .before .before .expect .kept .1 .1 .1 .0 ∙ c .before .before .before .before .before .before .before .before .before .before .before .before .before .before .before .before .before .before .before .before .before .before .before .before .before .before .before .before .before .before .before .before .type-spec .kept .1 .1 .0 ∙ c .before .before .before .before .before .before .before .before .before .before .before .before .before .before .before .before .before .before .before .before .before .before .before .before .before .before .before .before .before .before .before .before .before .before .before .before .before .start .kept .1 .0 ∙ c .before .before .before .before .before .before .before .before .before .before .before .before .before .before .before .before .before .before .before .before .before .before .before .before .before .before .before .before .before .before .before .before .before .before .before .before .before .before .before .before .before .before .eat .kept .1 .1 .1 .0
+  pub eat-requires : Here lts.Need-eat-requires
+  eat-requires c κs = c .before .before .before .before .pre .1
 
-pub returns-2 : (t : ℕ) → lts.Need-returns-2 (calls t) (decl-at t) decl.Post
-unfolding I.classicalDeclarationStmt
-returns-2 t c = then _ _ _ _ (c .before .before .before .before .before .before .before .before .before .before .before .before .before .before .before .before .before .before .before .before .before .before .before .before .before .before .before .before .before .before .before .before .before .before .before .before .before .before .before .before .before .before .eat .ensures) (step _ _ _ _ (c .before .before .before .before .before .before .before .before .before .before .before .before .before .before .before .before .before .before .before .before .before .before .before .before .before .before .before .before .before .before .before .before .before .before .before .before .before .start .ensures) (then _ _ _ _ (c .before .before .before .before .before .before .before .before .before .before .before .before .before .before .before .before .before .before .before .before .before .before .before .before .before .before .before .before .before .before .before .before .type-spec .ensures) (peek _ _ _ _ _ (c .before .before .before .before .before .before .before .before .before .before .before .before .before .before .before .before .before .before .before .before .before .before .before .before .before .before .before .before .before .current .ensures) (rw (eq-eqb _ _ (c .before .before .before .before .before .before .before .before .before .before .before .before .before .before .before .before .before .before .before .before .before .before .before .before .before .before .if1 .taken)) (then _ _ _ _ (c .before .before .before .before .before .before .before .before .before .before .before .before .before .before .before .before .before .before .before .before .before .before .before .before .expect .ensures) (then _ _ _ _ (c .before .before .before .before .before .before .before .before .before .before .before .before .before .before .before .before .before .before .before .expr-bp .ensures) (then _ _ _ _ (c .before .before .before .before .before .before .before .before .before .before .before .before .before .before .expect2 .ensures) (step _ _ _ _ (c .before .before .before .before .before .before .before .before .before .complete .ensures) (see _ _ _ _ (c .before .before .before .before .before .at .ensures) (rw (c .before .before .before .before .if2 .left) (any _ _ _ (c .before .before .abandon .ensures))))))))))))
+  pub start-requires : Here lts.Need-start-requires
+  start-requires c κs = c .before .before .before .before .eat .ensures .fit
 
-pub abandon-requires-2 : (t : ℕ) → lts.Need-abandon-requires-2 (calls t) (decl-at t) decl.Post
-abandon-requires-2 t c κs = c .before .before .before .before .current .ensures .fit
+  pub type-spec-requires : Here lts.Need-type-spec-requires
+  type-spec-requires c κs = (omega (arith, entry-type-spec-arg c .pre .0), c .before .before .before .before .start .ensures .fit)
 
-pub var-name-requires : (t : ℕ) → lts.Need-var-name-requires (calls t) (decl-at t) decl.Post
-var-name-requires t c κs = c .before .before .before .abandon2 .ensures .fit
+  pub current-requires : Here lts.Need-current-requires
+  current-requires c κs = c .before .before .type-spec .ensures .fit
 
-pub eat-requires-2 : (t : ℕ) → lts.Need-eat-requires-2 (calls t) (decl-at t) decl.Post
-eat-requires-2 t c κs = c .before .before .before .var-name .ensures .fit
+  pub expect-requires : Here lts.Need-expect-requires
+  expect-requires c κs = c .before .before .before .before .current .ensures .fit
 
-pub complete-requires-3 : (t : ℕ) → lts.Need-complete-requires-3 (calls t) (decl-at t) decl.Post
-complete-requires-3 t c κs = c .before .before .before .before .before .eat2 .ensures .fit
+  pub expr-bp-requires : Here lts.Need-expr-bp-requires
+  expr-bp-requires c κs =
+      let expect = c .before .before .before .before in
+      let struct-known = expect .before .before .before in
+      (omega (arith, entry-struct-known struct-known .pre .0), (expect .expect .ensures .fit, search needs))
 
-pub same-length-3 : (t : ℕ) → lts.Need-same-length-3 (calls t) (decl-at t) decl.Post
-same-length-3 t c = c .before .before .before .complete3 .kept .1 .0 ∙ c .before .before .before .before .before .before .before .before .before .eat2 .kept .1 .1 .1 .0 ∙ c .before .before .before .before .before .before .before .before .before .before .before .before .before .var-name .kept .1 .1 .0 ∙ c .before .before .before .before .before .before .before .before .before .before .before .before .before .before .before .before .before .abandon2 .kept .1 .0 ∙ c .before .before .before .before .before .before .before .before .before .before .before .before .before .before .before .before .before .before .before .before .before .before .before .before .before .type-spec .kept .1 .1 .0 ∙ c .before .before .before .before .before .before .before .before .before .before .before .before .before .before .before .before .before .before .before .before .before .before .before .before .before .before .before .before .before .before .start .kept .1 .0 ∙ c .before .before .before .before .before .before .before .before .before .before .before .before .before .before .before .before .before .before .before .before .before .before .before .before .before .before .before .before .before .before .before .before .before .before .before .eat .kept .1 .1 .1 .0
+  pub expect-requires-2 : Here lts.Need-expect-requires-2
+  expect-requires-2 c κs = c .before .before .before .before .expr-bp .ensures .fit
 
-pub returns-3 : (t : ℕ) → lts.Need-returns-3 (calls t) (decl-at t) decl.Post
-unfolding I.classicalDeclarationStmt
-returns-3 t c = then _ _ _ _ (c .before .before .before .before .before .before .before .before .before .before .before .before .before .before .before .before .before .before .before .before .before .before .before .before .before .before .before .before .before .before .before .before .before .before .before .eat .ensures) (step _ _ _ _ (c .before .before .before .before .before .before .before .before .before .before .before .before .before .before .before .before .before .before .before .before .before .before .before .before .before .before .before .before .before .before .start .ensures) (then _ _ _ _ (c .before .before .before .before .before .before .before .before .before .before .before .before .before .before .before .before .before .before .before .before .before .before .before .before .before .type-spec .ensures) (peek _ _ _ _ _ (c .before .before .before .before .before .before .before .before .before .before .before .before .before .before .before .before .before .before .before .before .before .before .current .ensures) (rw (ne-eqb _ _ (c .before .before .before .before .before .before .before .before .before .before .before .before .before .before .before .before .before .before .before .if1 .left)) (step _ _ _ _ (c .before .before .before .before .before .before .before .before .before .before .before .before .before .before .before .before .before .abandon2 .ensures) (then _ _ _ _ (c .before .before .before .before .before .before .before .before .before .before .before .before .before .var-name .ensures) (then _ _ _ _ (c .before .before .before .before .before .before .before .before .before .eat2 .ensures) (rw (c .before .before .before .before .before .if3 .taken) (step _ _ _ _ (c .before .before .before .complete3 .ensures) (ends _ _ _ (c .before .before .before .complete3 .ensures .fit)))))))))))
+  pub complete-requires : Here lts.Need-complete-requires
+  complete-requires c κs = c .before .before .before .before .expect2 .ensures .fit
 
-pub expect-requires-4 : (t : ℕ) → lts.Need-expect-requires-4 (calls t) (decl-at t) decl.Post
-expect-requires-4 t c κs = c .before .before .before .before .before .eat2 .ensures .fit
+  pub at-requires : Here lts.Need-at-requires
+  at-requires c κs = c .before .before .before .complete .ensures .fit
 
-pub expr-bp-requires-2 : (t : ℕ) → lts.Need-expr-bp-requires-2 (calls t) (decl-at t) decl.Post
-expr-bp-requires-2 t c κs = (omega (arith, c .before .before .before .before .before .before .before .before .before .before .before .before .before .before .before .before .before .before .before .before .before .before .before .before .before .before .before .before .before .before .before .before .before .before .before .before .before .before .before .before .before .before .pre .0), (c .before .before .before .before .before .expect4 .ensures .fit, search needs))
+  pub expect-requires-3 : Here lts.Need-expect-requires-3
+  expect-requires-3 c κs = c .before .before .before .before .before .before .complete .ensures .fit
 
-pub expect-requires-5 : (t : ℕ) → lts.Need-expect-requires-5 (calls t) (decl-at t) decl.Post
-expect-requires-5 t c κs = c .before .before .before .before .expr-bp2 .ensures .fit
+  pub complete-requires-2 : Here lts.Need-complete-requires-2
+  complete-requires-2 c κs = c .before .before .before .before .expect3 .ensures .fit
 
-pub complete-requires-4 : (t : ℕ) → lts.Need-complete-requires-4 (calls t) (decl-at t) decl.Post
-complete-requires-4 t c κs = c .before .before .before .before .expect5 .ensures .fit
+  pub same-length : Here lts.Need-same-length
+  same-length c =
+      let complete2 = c .before .before .before in
+      let expect3 = complete2 .before .before .before .before .before in
+      let complete = expect3 .before .before .before .before .before .before .before in
+      complete2 .complete2 .kept .1 .0 ∙ expect3 .expect3 .kept .1 .1 .1 .0 ∙ kept-complete complete
 
-pub same-length-4 : (t : ℕ) → lts.Need-same-length-4 (calls t) (decl-at t) decl.Post
-same-length-4 t c = c .before .before .before .complete4 .kept .1 .0 ∙ c .before .before .before .before .before .before .before .before .expect5 .kept .1 .1 .1 .0 ∙ c .before .before .before .before .before .before .before .before .before .before .before .before .before .expr-bp2 .kept .1 .1 .0 ∙ c .before .before .before .before .before .before .before .before .before .before .before .before .before .before .before .before .before .before .before .expect4 .kept .1 .1 .1 .0 ∙ c .before .before .before .before .before .before .before .before .before .before .before .before .before .before .before .before .before .before .before .before .before .before .before .before .before .eat2 .kept .1 .1 .1 .0 ∙ c .before .before .before .before .before .before .before .before .before .before .before .before .before .before .before .before .before .before .before .before .before .before .before .before .before .before .before .before .before .var-name .kept .1 .1 .0 ∙ c .before .before .before .before .before .before .before .before .before .before .before .before .before .before .before .before .before .before .before .before .before .before .before .before .before .before .before .before .before .before .before .before .before .abandon2 .kept .1 .0 ∙ c .before .before .before .before .before .before .before .before .before .before .before .before .before .before .before .before .before .before .before .before .before .before .before .before .before .before .before .before .before .before .before .before .before .before .before .before .before .before .before .before .before .type-spec .kept .1 .1 .0 ∙ c .before .before .before .before .before .before .before .before .before .before .before .before .before .before .before .before .before .before .before .before .before .before .before .before .before .before .before .before .before .before .before .before .before .before .before .before .before .before .before .before .before .before .before .before .before .before .start .kept .1 .0 ∙ c .before .before .before .before .before .before .before .before .before .before .before .before .before .before .before .before .before .before .before .before .before .before .before .before .before .before .before .before .before .before .before .before .before .before .before .before .before .before .before .before .before .before .before .before .before .before .before .before .before .before .before .eat .kept .1 .1 .1 .0
+  pub returns : Here lts.Need-returns
+  unfolding I.classicalDeclarationStmt
+  returns c =
+      let complete2 = c .before .before .before in
+      let expect3 = complete2 .before .before .before .before .before in
+      let if2 = expect3 .before .before in
+      let at = if2 .before in
+      let complete = at .before .before .before .before in
+      let expect2 = complete .before .before .before .before .before in
+      let expr-bp = expect2 .before .before .before .before .before in
+      let expect = expr-bp .before .before .before .before .before in
+      let if1 = expect .before .before in
+      let current = if1 .before .before .before in
+      let type-spec = current .before .before .before in
+      let start = type-spec .before .before .before .before .before in
+      let eat = start .before .before .before .before .before in
+      then _ _ _ _ (eat .eat .ensures)
+      (step _ _ _ _ (start .start .ensures)
+      (then _ _ _ _ (type-spec .type-spec .ensures)
+      (peek _ _ _ _ _ (current .current .ensures)
+      (rw (eq-eqb _ _ (if1 .if1 .taken))
+      (then _ _ _ _ (expect .expect .ensures)
+      (then _ _ _ _ (expr-bp .expr-bp .ensures)
+      (then _ _ _ _ (expect2 .expect2 .ensures)
+      (step _ _ _ _ (complete .complete .ensures)
+      (see _ _ _ _ (at .at .ensures)
+      (rw (if2 .if2 .taken)
+      (then _ _ _ _ (expect3 .expect3 .ensures)
+      (step _ _ _ _ (complete2 .complete2 .ensures)
+      (ends _ _ _ (complete2 .complete2 .ensures .fit))))))))))))))
 
-pub returns-4 : (t : ℕ) → lts.Need-returns-4 (calls t) (decl-at t) decl.Post
-unfolding I.classicalDeclarationStmt
-returns-4 t c = then _ _ _ _ (c .before .before .before .before .before .before .before .before .before .before .before .before .before .before .before .before .before .before .before .before .before .before .before .before .before .before .before .before .before .before .before .before .before .before .before .before .before .before .before .before .before .before .before .before .before .before .before .before .before .before .before .eat .ensures) (step _ _ _ _ (c .before .before .before .before .before .before .before .before .before .before .before .before .before .before .before .before .before .before .before .before .before .before .before .before .before .before .before .before .before .before .before .before .before .before .before .before .before .before .before .before .before .before .before .before .before .before .start .ensures) (then _ _ _ _ (c .before .before .before .before .before .before .before .before .before .before .before .before .before .before .before .before .before .before .before .before .before .before .before .before .before .before .before .before .before .before .before .before .before .before .before .before .before .before .before .before .before .type-spec .ensures) (peek _ _ _ _ _ (c .before .before .before .before .before .before .before .before .before .before .before .before .before .before .before .before .before .before .before .before .before .before .before .before .before .before .before .before .before .before .before .before .before .before .before .before .before .before .current .ensures) (rw (ne-eqb _ _ (c .before .before .before .before .before .before .before .before .before .before .before .before .before .before .before .before .before .before .before .before .before .before .before .before .before .before .before .before .before .before .before .before .before .before .before .if1 .left)) (step _ _ _ _ (c .before .before .before .before .before .before .before .before .before .before .before .before .before .before .before .before .before .before .before .before .before .before .before .before .before .before .before .before .before .before .before .before .before .abandon2 .ensures) (then _ _ _ _ (c .before .before .before .before .before .before .before .before .before .before .before .before .before .before .before .before .before .before .before .before .before .before .before .before .before .before .before .before .before .var-name .ensures) (then _ _ _ _ (c .before .before .before .before .before .before .before .before .before .before .before .before .before .before .before .before .before .before .before .before .before .before .before .before .before .eat2 .ensures) (rw (c .before .before .before .before .before .before .before .before .before .before .before .before .before .before .before .before .before .before .before .before .before .if3 .left) (then _ _ _ _ (c .before .before .before .before .before .before .before .before .before .before .before .before .before .before .before .before .before .before .before .expect4 .ensures) (rw (c .before .before .before .before .before .before .before .before .before .before .before .before .before .before .before .if4 .taken) (then _ _ _ _ (c .before .before .before .before .before .before .before .before .before .before .before .before .before .expr-bp2 .ensures) (then _ _ _ _ (c .before .before .before .before .before .before .before .before .expect5 .ensures) (step _ _ _ _ (c .before .before .before .complete4 .ensures) (ends _ _ _ (c .before .before .before .complete4 .ensures .fit)))))))))))))))
+  pub abandon-requires : Here lts.Need-abandon-requires
+  abandon-requires c κs = c .before .before .before .before .before .before .complete .ensures .fit
 
-pub abandon-requires-3 : (t : ℕ) → lts.Need-abandon-requires-3 (calls t) (decl-at t) decl.Post
-abandon-requires-3 t c κs = c .before .before .before .before .before .expect4 .ensures .fit
+  pub same-length-2 : Here lts.Need-same-length-2
+  same-length-2 c =
+      let abandon = c .before .before in
+      let complete = abandon .before .before .before .before .before .before .before in
+      abandon .abandon .kept .1 .0 ∙ kept-complete complete
 
-pub same-length-5 : (t : ℕ) → lts.Need-same-length-5 (calls t) (decl-at t) decl.Post
-same-length-5 t c = c .before .before .abandon3 .kept .1 .0 ∙ c .before .before .before .before .before .before .before .before .expect4 .kept .1 .1 .1 .0 ∙ c .before .before .before .before .before .before .before .before .before .before .before .before .before .before .eat2 .kept .1 .1 .1 .0 ∙ c .before .before .before .before .before .before .before .before .before .before .before .before .before .before .before .before .before .before .var-name .kept .1 .1 .0 ∙ c .before .before .before .before .before .before .before .before .before .before .before .before .before .before .before .before .before .before .before .before .before .before .abandon2 .kept .1 .0 ∙ c .before .before .before .before .before .before .before .before .before .before .before .before .before .before .before .before .before .before .before .before .before .before .before .before .before .before .before .before .before .before .type-spec .kept .1 .1 .0 ∙ c .before .before .before .before .before .before .before .before .before .before .before .before .before .before .before .before .before .before .before .before .before .before .before .before .before .before .before .before .before .before .before .before .before .before .before .start .kept .1 .0 ∙ c .before .before .before .before .before .before .before .before .before .before .before .before .before .before .before .before .before .before .before .before .before .before .before .before .before .before .before .before .before .before .before .before .before .before .before .before .before .before .before .before .eat .kept .1 .1 .1 .0
+  pub returns-2 : Here lts.Need-returns-2
+  unfolding I.classicalDeclarationStmt
+  returns-2 c =
+      let abandon = c .before .before in
+      let if2 = abandon .before .before in
+      let at = if2 .before in
+      let complete = at .before .before .before .before in
+      let expect2 = complete .before .before .before .before .before in
+      let expr-bp = expect2 .before .before .before .before .before in
+      let expect = expr-bp .before .before .before .before .before in
+      let if1 = expect .before .before in
+      let current = if1 .before .before .before in
+      let type-spec = current .before .before .before in
+      let start = type-spec .before .before .before .before .before in
+      let eat = start .before .before .before .before .before in
+      then _ _ _ _ (eat .eat .ensures)
+      (step _ _ _ _ (start .start .ensures)
+      (then _ _ _ _ (type-spec .type-spec .ensures)
+      (peek _ _ _ _ _ (current .current .ensures)
+      (rw (eq-eqb _ _ (if1 .if1 .taken))
+      (then _ _ _ _ (expect .expect .ensures)
+      (then _ _ _ _ (expr-bp .expr-bp .ensures)
+      (then _ _ _ _ (expect2 .expect2 .ensures)
+      (step _ _ _ _ (complete .complete .ensures)
+      (see _ _ _ _ (at .at .ensures)
+      (rw (if2 .if2 .left)
+      (any _ _ _ (abandon .abandon .ensures))))))))))))
 
-pub returns-5 : (t : ℕ) → lts.Need-returns-5 (calls t) (decl-at t) decl.Post
-unfolding I.classicalDeclarationStmt
-returns-5 t c = then _ _ _ _ (c .before .before .before .before .before .before .before .before .before .before .before .before .before .before .before .before .before .before .before .before .before .before .before .before .before .before .before .before .before .before .before .before .before .before .before .before .before .before .before .before .eat .ensures) (step _ _ _ _ (c .before .before .before .before .before .before .before .before .before .before .before .before .before .before .before .before .before .before .before .before .before .before .before .before .before .before .before .before .before .before .before .before .before .before .before .start .ensures) (then _ _ _ _ (c .before .before .before .before .before .before .before .before .before .before .before .before .before .before .before .before .before .before .before .before .before .before .before .before .before .before .before .before .before .before .type-spec .ensures) (peek _ _ _ _ _ (c .before .before .before .before .before .before .before .before .before .before .before .before .before .before .before .before .before .before .before .before .before .before .before .before .before .before .before .current .ensures) (rw (ne-eqb _ _ (c .before .before .before .before .before .before .before .before .before .before .before .before .before .before .before .before .before .before .before .before .before .before .before .before .if1 .left)) (step _ _ _ _ (c .before .before .before .before .before .before .before .before .before .before .before .before .before .before .before .before .before .before .before .before .before .before .abandon2 .ensures) (then _ _ _ _ (c .before .before .before .before .before .before .before .before .before .before .before .before .before .before .before .before .before .before .var-name .ensures) (then _ _ _ _ (c .before .before .before .before .before .before .before .before .before .before .before .before .before .before .eat2 .ensures) (rw (c .before .before .before .before .before .before .before .before .before .before .if3 .left) (then _ _ _ _ (c .before .before .before .before .before .before .before .before .expect4 .ensures) (rw (c .before .before .before .before .if4 .left) (any _ _ _ (c .before .before .abandon3 .ensures))))))))))))
+  pub abandon-requires-2 : Here lts.Need-abandon-requires-2
+  abandon-requires-2 c κs = c .before .before .before .before .current .ensures .fit
+
+  pub var-name-requires : Here lts.Need-var-name-requires
+  var-name-requires c κs = c .before .before .before .abandon2 .ensures .fit
+
+  pub eat-requires-2 : Here lts.Need-eat-requires-2
+  eat-requires-2 c κs = c .before .before .before .var-name .ensures .fit
+
+  pub complete-requires-3 : Here lts.Need-complete-requires-3
+  complete-requires-3 c κs = c .before .before .before .before .before .eat2 .ensures .fit
+
+  pub same-length-3 : Here lts.Need-same-length-3
+  same-length-3 c =
+      let complete3 = c .before .before .before in
+      let eat2 = complete3 .before .before .before .before .before .before in
+      complete3 .complete3 .kept .1 .0 ∙ kept-eat2 eat2
+
+  pub returns-3 : Here lts.Need-returns-3
+  unfolding I.classicalDeclarationStmt
+  returns-3 c =
+      let complete3 = c .before .before .before in
+      let if3 = complete3 .before .before in
+      let eat2 = if3 .before .before .before .before in
+      let var-name = eat2 .before .before .before .before in
+      let abandon2 = var-name .before .before .before .before in
+      let if1 = abandon2 .before .before in
+      let current = if1 .before .before .before in
+      let type-spec = current .before .before .before in
+      let start = type-spec .before .before .before .before .before in
+      let eat = start .before .before .before .before .before in
+      then _ _ _ _ (eat .eat .ensures)
+      (step _ _ _ _ (start .start .ensures)
+      (then _ _ _ _ (type-spec .type-spec .ensures)
+      (peek _ _ _ _ _ (current .current .ensures)
+      (rw (ne-eqb _ _ (if1 .if1 .left))
+      (step _ _ _ _ (abandon2 .abandon2 .ensures)
+      (then _ _ _ _ (var-name .var-name .ensures)
+      (then _ _ _ _ (eat2 .eat2 .ensures)
+      (rw (if3 .if3 .taken)
+      (step _ _ _ _ (complete3 .complete3 .ensures)
+      (ends _ _ _ (complete3 .complete3 .ensures .fit)))))))))))
+
+  pub expect-requires-4 : Here lts.Need-expect-requires-4
+  expect-requires-4 c κs = c .before .before .before .before .before .eat2 .ensures .fit
+
+  pub expr-bp-requires-2 : Here lts.Need-expr-bp-requires-2
+  expr-bp-requires-2 c κs = (
+    omega (arith, entry-expect4 (c .before .before .before .before .before) .pre .0),
+    (
+      c .before .before
+          .before .before .before .expect4 .ensures .fit,
+      search needs,
+    ),
+  )
+
+  pub expect-requires-5 : Here lts.Need-expect-requires-5
+  expect-requires-5 c κs = c .before .before .before .before .expr-bp2 .ensures .fit
+
+  pub complete-requires-4 : Here lts.Need-complete-requires-4
+  complete-requires-4 c κs = c .before .before .before .before .expect5 .ensures .fit
+
+  pub same-length-4 : Here lts.Need-same-length-4
+  same-length-4 c =
+      let complete4 = c .before .before .before in
+      let expect5 = complete4 .before .before .before .before .before in
+      let expr-bp2 = expect5 .before .before .before .before .before in
+      let expect4 = expr-bp2 .before .before .before .before .before .before in
+      complete4 .complete4 .kept .1 .0 ∙ expect5 .expect5 .kept .1 .1 .1 .0 ∙ expr-bp2 .expr-bp2 .kept .1 .1 .0 ∙ kept-expect4
+      expect4
+
+  pub returns-4 : Here lts.Need-returns-4
+  unfolding I.classicalDeclarationStmt
+  returns-4 c =
+      let complete4 = c .before .before .before in
+      let expect5 = complete4 .before .before .before .before .before in
+      let expr-bp2 = expect5 .before .before .before .before .before in
+      let if4 = expr-bp2 .before .before in
+      let expect4 = if4 .before .before .before .before in
+      let if3 = expect4 .before .before in
+      let eat2 = if3 .before .before .before .before in
+      let var-name = eat2 .before .before .before .before in
+      let abandon2 = var-name .before .before .before .before in
+      let if1 = abandon2 .before .before in
+      let current = if1 .before .before .before in
+      let type-spec = current .before .before .before in
+      let start = type-spec .before .before .before .before .before in
+      let eat = start .before .before .before .before .before in
+      then _ _ _ _ (eat .eat .ensures)
+      (step _ _ _ _ (start .start .ensures)
+      (then _ _ _ _ (type-spec .type-spec .ensures)
+      (peek _ _ _ _ _ (current .current .ensures)
+      (rw (ne-eqb _ _ (if1 .if1 .left))
+      (step _ _ _ _ (abandon2 .abandon2 .ensures)
+      (then _ _ _ _ (var-name .var-name .ensures)
+      (then _ _ _ _ (eat2 .eat2 .ensures)
+      (rw (if3 .if3 .left)
+      (then _ _ _ _ (expect4 .expect4 .ensures)
+      (rw (if4 .if4 .taken)
+      (then _ _ _ _ (expr-bp2 .expr-bp2 .ensures)
+      (then _ _ _ _ (expect5 .expect5 .ensures)
+      (step _ _ _ _ (complete4 .complete4 .ensures)
+      (ends _ _ _ (complete4 .complete4 .ensures .fit)))))))))))))))
+
+  pub abandon-requires-3 : Here lts.Need-abandon-requires-3
+  abandon-requires-3 c κs = c .before .before .before .before .before .expect4 .ensures .fit
+
+  pub same-length-5 : Here lts.Need-same-length-5
+  same-length-5 c =
+      let abandon3 = c .before .before in
+      let expect4 = abandon3 .before .before .before .before .before .before in
+      abandon3 .abandon3 .kept .1 .0 ∙ kept-expect4 expect4
+
+  pub returns-5 : Here lts.Need-returns-5
+  unfolding I.classicalDeclarationStmt
+  returns-5 c =
+      let abandon3 = c .before .before in
+      let if4 = abandon3 .before .before in
+      let expect4 = if4 .before .before .before .before in
+      let if3 = expect4 .before .before in
+      let eat2 = if3 .before .before .before .before in
+      let var-name = eat2 .before .before .before .before in
+      let abandon2 = var-name .before .before .before .before in
+      let if1 = abandon2 .before .before in
+      let current = if1 .before .before .before in
+      let type-spec = current .before .before .before in
+      let start = type-spec .before .before .before .before .before in
+      let eat = start .before .before .before .before .before in
+      then _ _ _ _ (eat .eat .ensures)
+      (step _ _ _ _ (start .start .ensures)
+      (then _ _ _ _ (type-spec .type-spec .ensures)
+      (peek _ _ _ _ _ (current .current .ensures)
+      (rw (ne-eqb _ _ (if1 .if1 .left))
+      (step _ _ _ _ (abandon2 .abandon2 .ensures)
+      (then _ _ _ _ (var-name .var-name .ensures)
+      (then _ _ _ _ (eat2 .eat2 .ensures)
+      (rw (if3 .if3 .left)
+      (then _ _ _ _ (expect4 .expect4 .ensures)
+      (rw (if4 .if4 .left)
+      (any _ _ _ (abandon3 .abandon3 .ensures))))))))))))

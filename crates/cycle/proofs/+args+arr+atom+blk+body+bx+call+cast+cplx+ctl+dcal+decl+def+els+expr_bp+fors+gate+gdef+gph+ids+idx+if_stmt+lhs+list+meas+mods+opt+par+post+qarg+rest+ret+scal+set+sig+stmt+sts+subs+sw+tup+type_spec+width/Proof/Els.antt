@@ -1,40 +1,59 @@
+-- Written by tools/proofs from the code, the definitions and hints.py: docs/PRODUCTIONS.md says how to change it.
 -- `els`.
 use borrow.Author.Needs.{needs}
-use Rattle.runtime.proofs.Laws.{ask, any}
+use Rattle.runtime.proofs.Laws.{any}
 use native.Mathlib.Omega.{arith}
 use Rattle.grammar.specs.Entry.{counted}
 use Prim.Native.Nat.{ℕ}
+use Rattle.cycle.proofs.Depth.{expressionList-deeper}
 use Rattle.grammar.specs.Params as P
 use Rattle.runtime.proofs.parser.Parser.stop.Reads as stop-reads
 use Rattle.cycle.proofs.els.Reads as els
 use Rattle.cycle.proofs.list.Reads as list
-use Rattle.cycle.proofs.+args+arr+atom+blk+body+bx+call+cast+cplx+ctl+dcal+decl+def+els+expr_bp+fors+gate+gdef+gph+ids+idx+if_stmt+lhs+list+meas+mods+opt+par+post+qarg+rest+ret+scal+set+sig+stmt+sts+subs+sw+tup+type_spec+width.Lts-els as lts
-use Rattle.cycle.proofs.+args+arr+atom+blk+body+bx+call+cast+cplx+ctl+dcal+decl+def+els+expr_bp+fors+gate+gdef+gph+ids+idx+if_stmt+lhs+list+meas+mods+opt+par+post+qarg+rest+ret+scal+set+sig+stmt+sts+subs+sw+tup+type_spec+width.Proof.Frame.{els-at, list-below}
-use Rattle.cycle.proofs.Depth.{expressionList-deeper}
+use Rattle.cycle.proofs.+args+arr+atom+blk+body+bx+call+cast+cplx+ctl+dcal+decl+def+els+expr_bp+fors+gate+gdef+gph+ids+idx+if_stmt+lhs+list+meas+mods+opt+par+post+qarg+rest+ret+scal+set+sig+stmt+sts+subs+sw+tup+type_spec+width as cycle
+use cycle.Lts-els as lts
+use cycle.Proof.Frame.{els-at, list-below}
+use Rattle.cycle.proofs.els.Kinds as kinds
+use borrow.Fn.Kinds.{In, Out}
 
 -- what the callees ask and give
 abbrev pub calls : ℕ → lts.Claims
 calls t = (stop-reads.Asked, stop-reads.Learnt, list-below t, list.Post)
 
-pub stop-requires : (t : ℕ) → lts.Need-stop-requires (calls t) (els-at t) els.Post
-stop-requires t c κs = c .before .before .before .before .before .pre .1
+module _ (t : ℕ) where
+  abbrev Here : (lts.Claims → In 3 kinds.ps → Out 3 kinds.ps kinds.r → Type 0) → Type 0
+  Here X = X (calls t) (els-at t) els.Post
 
-pub same-length : (t : ℕ) → lts.Need-same-length (calls t) (els-at t) els.Post
-same-length t c = c .before .before .stop .kept .1 .0
+  pub stop-requires : Here lts.Need-stop-requires
+  stop-requires c κs = c .before .before .before .before .before .pre .1
 
-pub returns : (t : ℕ) → lts.Need-returns (calls t) (els-at t) els.Post
-unfolding counted
-returns t c = rw (c .before .before .before .before .if1 .taken) (any _ _ _ (c .before .before .stop .ensures))
+  pub same-length : Here lts.Need-same-length
+  same-length c = c .before .before .stop .kept .1 .0
 
-pub sub-d : (t : ℕ) → lts.Need-sub-d (calls t) (els-at t) els.Post
-sub-d t c = search needs
+  pub returns : Here lts.Need-returns
+  unfolding counted
+  returns c =
+      let stop = c .before .before in
+      let if1 = stop .before .before in
+      rw (if1 .if1 .taken)
+      (any _ _ _ (stop .stop .ensures))
 
-pub list-requires : (t : ℕ) → lts.Need-list-requires (calls t) (els-at t) els.Post
-list-requires t c κs = (omega (arith, c .before .before .before .before .before .pre .0, c .before .if1 .left), c .before .before .before .before .before .pre .1)
+  pub sub-d : Here lts.Need-sub-d
+  sub-d c = search needs
 
-pub same-length-2 : (t : ℕ) → lts.Need-same-length-2 (calls t) (els-at t) els.Post
-same-length-2 t c = c .before .before .list .kept .1 .1 .0
+  pub list-requires : Here lts.Need-list-requires
+  list-requires c κs =
+      let if1 = c .before in
+      let entry = if1 .before .before .before .before in
+      (omega (arith, entry .pre .0, if1 .if1 .left), entry .pre .1)
 
-pub returns-2 : (t : ℕ) → lts.Need-returns-2 (calls t) (els-at t) els.Post
-unfolding P.expressionList
-returns-2 t c = expressionList-deeper _ _ _ _ (c .before .before .before .before .if1 .left) (c .before .before .list .ensures)
+  pub same-length-2 : Here lts.Need-same-length-2
+  same-length-2 c = c .before .before .list .kept .1 .1 .0
+
+  pub returns-2 : Here lts.Need-returns-2
+  unfolding P.expressionList
+  returns-2 c =
+      let list = c .before .before in
+      let if1 = list .before .before in
+      expressionList-deeper _ _ _ _ (if1 .if1 .left)
+      (list .list .ensures)

@@ -1,3 +1,4 @@
+-- Written by tools/proofs from the code, the definitions and hints.py: docs/PRODUCTIONS.md says how to change it.
 -- What a member of the cycle is given at the measure t, and what a call of it asks below t.
 -- A measure: the counted calls left, times more than there are members, and the member's place among those of one depth.
 use Prim.Native.Nat.{ℕ, _<_, _*_, _+_}
@@ -323,7 +324,7 @@ abbrev pub mods-below : ℕ → In 3 mods-kinds.ps
 mods-below t = and 3 mods-kinds.ps (falls 3 mods-kinds.ps _<_ μ-mods t) mods.Pre
 
 abbrev pub μ-opt : Measures 3 opt-kinds.ps ℕ
-μ-opt κs a = a .1 .1 .1 .1 .1 .0 * 64 + 10
+μ-opt κs a = a .1 .1 .1 .1 .1 .0 * 64 + 8
 
 abbrev pub opt-at : ℕ → In 3 opt-kinds.ps
 opt-at t = and 3 opt-kinds.ps (is 3 opt-kinds.ps μ-opt t) opt.Pre

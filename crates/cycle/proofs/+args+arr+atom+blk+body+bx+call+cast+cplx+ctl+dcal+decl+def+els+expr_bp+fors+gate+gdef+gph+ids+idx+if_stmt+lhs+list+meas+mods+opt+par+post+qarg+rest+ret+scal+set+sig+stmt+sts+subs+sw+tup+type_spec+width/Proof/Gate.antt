@@ -1,9 +1,10 @@
+-- Written by tools/proofs from the code, the definitions and hints.py: docs/PRODUCTIONS.md says how to change it.
 -- `gate`.
-use borrow.Author.Needs.{needs}
-use Rattle.runtime.proofs.Laws.{then, step, see, ask, any}
+use Rattle.runtime.proofs.Laws.{then, step, see, any}
 use Rattle.grammar.proofs.Laws.{assoc, pick-bind, done-bind}
 use native.Mathlib.Omega.{arith}
-use mathlib.Core.Path.{_∙_}
+use lib.ListN.{length}
+use mathlib.Core.Path.{_≡_, _∙_}
 use Prim.Native.Nat.{ℕ}
 use Rattle.grammar.specs.Params as P
 use Rattle.grammar.specs.Atom as A
@@ -14,47 +15,127 @@ use Rattle.runtime.proofs.parser.Parser.start.Reads as start-reads
 use Rattle.cycle.proofs.args.Reads as args
 use Rattle.cycle.proofs.gate.Reads as gate
 use Rattle.cycle.proofs.list.Reads as list
-use Rattle.cycle.proofs.+args+arr+atom+blk+body+bx+call+cast+cplx+ctl+dcal+decl+def+els+expr_bp+fors+gate+gdef+gph+ids+idx+if_stmt+lhs+list+meas+mods+opt+par+post+qarg+rest+ret+scal+set+sig+stmt+sts+subs+sw+tup+type_spec+width.Lts-gate as lts
-use Rattle.cycle.proofs.+args+arr+atom+blk+body+bx+call+cast+cplx+ctl+dcal+decl+def+els+expr_bp+fors+gate+gdef+gph+ids+idx+if_stmt+lhs+list+meas+mods+opt+par+post+qarg+rest+ret+scal+set+sig+stmt+sts+subs+sw+tup+type_spec+width.Proof.Frame.{args-below, gate-at, list-below}
+use Rattle.cycle.proofs.+args+arr+atom+blk+body+bx+call+cast+cplx+ctl+dcal+decl+def+els+expr_bp+fors+gate+gdef+gph+ids+idx+if_stmt+lhs+list+meas+mods+opt+par+post+qarg+rest+ret+scal+set+sig+stmt+sts+subs+sw+tup+type_spec+width as cycle
+use cycle.Lts-gate as lts
+use cycle.Proof.Frame.{args-below, gate-at, list-below}
+use Rattle.cycle.proofs.gate.Kinds as kinds
+use borrow.Fn.Kinds.{In, Out}
 
 -- what the callees ask and give
 abbrev pub calls : ℕ → lts.Claims
-calls t = (start-reads.Asked, start-reads.Learnt, identifier-reads.Asked, identifier-reads.Learnt, at-reads.Asked, at-reads.Learnt, args-below t, args.Post, list-below t, list.Post, complete-reads.Asked, complete-reads.Learnt)
+calls t = (
+  start-reads.Asked,
+  start-reads.Learnt,
+  identifier-reads.Asked,
+  identifier-reads.Learnt,
+  at-reads.Asked,
+  at-reads.Learnt,
+  args-below t,
+  args.Post,
+  list-below t,
+  list.Post,
+  complete-reads.Asked,
+  complete-reads.Learnt,
+)
 
-pub start-requires : (t : ℕ) → lts.Need-start-requires (calls t) (gate-at t) gate.Post
-start-requires t c κs = c .before .before .before .before .pre .1
+module _ (t : ℕ) where
+  abbrev Here : (lts.Claims → In 3 kinds.ps → Out 3 kinds.ps kinds.r → Type 0) → Type 0
+  Here X = X (calls t) (gate-at t) gate.Post
 
-pub identifier-requires : (t : ℕ) → lts.Need-identifier-requires (calls t) (gate-at t) gate.Post
-identifier-requires t c κs = c .before .before .before .before .start .ensures .fit
+  abbrev entry-start : Here lts.After-start → Here lts.Start
+  entry-start c = c .before .before .before .before .before
 
-pub at-requires : (t : ℕ) → lts.Need-at-requires (calls t) (gate-at t) gate.Post
-at-requires t c κs = c .before .before .before .identifier .ensures .fit
+  kept-identifier : (c : Here lts.After-identifier) → length (c .identifier .last .1 .1 .0) ≡ length (entry-start (c .before
+      .before .before .before .before) .args .room .now)
+  kept-identifier c = c .identifier .kept .1 .1 .0 ∙ c .before .before .before .before .before .start .kept .1 .0
 
-pub args-requires : (t : ℕ) → lts.Need-args-requires (calls t) (gate-at t) gate.Post
-args-requires t c κs = (omega (arith, c .before .before .before .before .before .before .before .before .before .before .before .before .before .before .before .before .pre .0), c .before .before .before .before .before .before .identifier .ensures .fit)
+  abbrev entry-at : Here lts.After-at → Here lts.Start
+  entry-at c = entry-start (c .before .before .before .before .before .before .before .before .before)
 
-pub list-requires : (t : ℕ) → lts.Need-list-requires (calls t) (gate-at t) gate.Post
-list-requires t c κs = (omega (arith, c .before .before .before .before .before .before .before .before .before .before .before .before .before .before .before .before .before .before .before .before .pre .0), c .before .before .before .args2 .ensures .fit)
+  abbrev entry-args-arg : Here lts.After-args-arg → Here lts.Start
+  entry-args-arg c = entry-at (c .before .before)
 
-pub complete-requires : (t : ℕ) → lts.Need-complete-requires (calls t) (gate-at t) gate.Post
-complete-requires t c κs = c .before .before .before .list .ensures .fit
+  pub start-requires : Here lts.Need-start-requires
+  start-requires c κs = c .before .before .before .before .pre .1
 
-pub same-length : (t : ℕ) → lts.Need-same-length (calls t) (gate-at t) gate.Post
-same-length t c = c .before .before .complete .kept .1 .0 ∙ c .before .before .before .before .before .before .list .kept .1 .1 .0 ∙ c .before .before .before .before .before .before .before .before .before .before .args2 .kept .1 .1 .0 ∙ c .before .before .before .before .before .before .before .before .before .before .before .before .before .before .before .before .before .identifier .kept .1 .1 .0 ∙ c .before .before .before .before .before .before .before .before .before .before .before .before .before .before .before .before .before .before .before .before .before .before .start .kept .1 .0
+  pub identifier-requires : Here lts.Need-identifier-requires
+  identifier-requires c κs = c .before .before .before .before .start .ensures .fit
 
-pub returns : (t : ℕ) → lts.Need-returns (calls t) (gate-at t) gate.Post
-unfolding A.gateCallExpr P.argListGateCallQubits
-returns t c = simp (assoc, pick-bind, done-bind) (step _ _ _ _ (c .before .before .before .before .before .before .before .before .before .before .before .before .before .before .before .before .before .before .before .before .before .before .start .ensures) (then _ _ _ _ (c .before .before .before .before .before .before .before .before .before .before .before .before .before .before .before .before .before .identifier .ensures) (see _ _ _ _ (c .before .before .before .before .before .before .before .before .before .before .before .before .before .at .ensures) (rw (c .before .before .before .before .before .before .before .before .before .before .before .before .if1 .taken) (then _ _ _ _ (c .before .before .before .before .before .before .before .before .before .before .args2 .ensures) (then _ _ _ _ (c .before .before .before .before .before .before .list .ensures) (any _ _ _ (c .before .before .complete .ensures))))))))
+  pub at-requires : Here lts.Need-at-requires
+  at-requires c κs = c .before .before .before .identifier .ensures .fit
 
-pub list-requires-2 : (t : ℕ) → lts.Need-list-requires-2 (calls t) (gate-at t) gate.Post
-list-requires-2 t c κs = (omega (arith, c .before .before .before .before .before .before .before .before .before .before .before .before .before .before .before .before .pre .0), c .before .before .before .before .before .before .identifier .ensures .fit)
+  pub args-requires : Here lts.Need-args-requires
+  args-requires c κs = (
+    omega (arith, entry-args-arg c .pre .0),
+    c .before .before .before .before .before .before .identifier
+        .ensures .fit,
+  )
 
-pub complete-requires-2 : (t : ℕ) → lts.Need-complete-requires-2 (calls t) (gate-at t) gate.Post
-complete-requires-2 t c κs = c .before .before .before .list2 .ensures .fit
+  pub list-requires : Here lts.Need-list-requires
+  list-requires c κs =
+      let args2 = c .before .before .before in
+      let args-arg = args2 .before in
+      (omega (arith, entry-args-arg args-arg .pre .0), args2 .args2 .ensures .fit)
 
-pub same-length-2 : (t : ℕ) → lts.Need-same-length-2 (calls t) (gate-at t) gate.Post
-same-length-2 t c = c .before .before .complete2 .kept .1 .0 ∙ c .before .before .before .before .before .before .list2 .kept .1 .1 .0 ∙ c .before .before .before .before .before .before .before .before .before .before .before .before .before .identifier .kept .1 .1 .0 ∙ c .before .before .before .before .before .before .before .before .before .before .before .before .before .before .before .before .before .before .start .kept .1 .0
+  pub complete-requires : Here lts.Need-complete-requires
+  complete-requires c κs = c .before .before .before .list .ensures .fit
 
-pub returns-2 : (t : ℕ) → lts.Need-returns-2 (calls t) (gate-at t) gate.Post
-unfolding A.gateCallExpr P.argListGateCallQubits
-returns-2 t c = simp (assoc, pick-bind, done-bind) (step _ _ _ _ (c .before .before .before .before .before .before .before .before .before .before .before .before .before .before .before .before .before .before .start .ensures) (then _ _ _ _ (c .before .before .before .before .before .before .before .before .before .before .before .before .before .identifier .ensures) (see _ _ _ _ (c .before .before .before .before .before .before .before .before .before .at .ensures) (rw (c .before .before .before .before .before .before .before .before .if1 .left) (then _ _ _ _ (c .before .before .before .before .before .before .list2 .ensures) (any _ _ _ (c .before .before .complete2 .ensures)))))))
+  pub same-length : Here lts.Need-same-length
+  same-length c =
+      let complete = c .before .before in
+      let list = complete .before .before .before .before in
+      let args2 = list .before .before .before .before in
+      let identifier = args2 .before .before .before .before .before .before .before in
+      complete .complete .kept .1 .0 ∙ list .list .kept .1 .1 .0 ∙ args2 .args2 .kept .1 .1 .0 ∙ kept-identifier identifier
+
+  pub returns : Here lts.Need-returns
+  unfolding A.gateCallExpr P.argListGateCallQubits
+  returns c =
+      let complete = c .before .before in
+      let list = complete .before .before .before .before in
+      let args2 = list .before .before .before .before in
+      let if1 = args2 .before .before in
+      let at = if1 .before in
+      let identifier = at .before .before .before .before in
+      let start = identifier .before .before .before .before .before in
+      simp (assoc, pick-bind, done-bind)
+      (step _ _ _ _ (start .start .ensures)
+      (then _ _ _ _ (identifier .identifier .ensures)
+      (see _ _ _ _ (at .at .ensures)
+      (rw (if1 .if1 .taken)
+      (then _ _ _ _ (args2 .args2 .ensures)
+      (then _ _ _ _ (list .list .ensures)
+      (any _ _ _ (complete .complete .ensures))))))))
+
+  pub list-requires-2 : Here lts.Need-list-requires-2
+  list-requires-2 c κs =
+      let at = c .before .before in
+      let identifier = at .before .before .before .before in
+      (omega (arith, entry-at at .pre .0), identifier .identifier .ensures .fit)
+
+  pub complete-requires-2 : Here lts.Need-complete-requires-2
+  complete-requires-2 c κs = c .before .before .before .list2 .ensures .fit
+
+  pub same-length-2 : Here lts.Need-same-length-2
+  same-length-2 c =
+      let complete2 = c .before .before in
+      let list2 = complete2 .before .before .before .before in
+      let identifier = list2 .before .before .before .before .before .before .before in
+      complete2 .complete2 .kept .1 .0 ∙ list2 .list2 .kept .1 .1 .0 ∙ kept-identifier identifier
+
+  pub returns-2 : Here lts.Need-returns-2
+  unfolding A.gateCallExpr P.argListGateCallQubits
+  returns-2 c =
+      let complete2 = c .before .before in
+      let list2 = complete2 .before .before .before .before in
+      let if1 = list2 .before .before in
+      let at = if1 .before in
+      let identifier = at .before .before .before .before in
+      let start = identifier .before .before .before .before .before in
+      simp (assoc, pick-bind, done-bind)
+      (step _ _ _ _ (start .start .ensures)
+      (then _ _ _ _ (identifier .identifier .ensures)
+      (see _ _ _ _ (at .at .ensures)
+      (rw (if1 .if1 .left)
+      (then _ _ _ _ (list2 .list2 .ensures)
+      (any _ _ _ (complete2 .complete2 .ensures)))))))

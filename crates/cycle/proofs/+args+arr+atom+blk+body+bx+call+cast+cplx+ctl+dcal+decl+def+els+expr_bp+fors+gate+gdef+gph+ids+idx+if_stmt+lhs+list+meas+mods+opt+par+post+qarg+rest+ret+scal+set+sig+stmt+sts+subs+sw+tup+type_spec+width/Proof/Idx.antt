@@ -1,6 +1,6 @@
+-- Written by tools/proofs from the code, the definitions and hints.py: docs/PRODUCTIONS.md says how to change it.
 -- `idx`.
-use borrow.Author.Needs.{needs}
-use Rattle.runtime.proofs.Laws.{then, step, ask, any}
+use Rattle.runtime.proofs.Laws.{then, step, any}
 use borrow.Author.Tests.{ne-eqb, eq-eqb}
 use native.Mathlib.Omega.{arith}
 use mathlib.Core.Path.{_∙_}
@@ -13,41 +13,92 @@ use Rattle.runtime.proofs.parser.Parser.precede.Reads as precede-reads
 use Rattle.cycle.proofs.ids.Reads as ids
 use Rattle.cycle.proofs.idx.Reads as idx
 use Rattle.cycle.proofs.subs.Reads as subs
-use Rattle.cycle.proofs.+args+arr+atom+blk+body+bx+call+cast+cplx+ctl+dcal+decl+def+els+expr_bp+fors+gate+gdef+gph+ids+idx+if_stmt+lhs+list+meas+mods+opt+par+post+qarg+rest+ret+scal+set+sig+stmt+sts+subs+sw+tup+type_spec+width.Lts-idx as lts
-use Rattle.cycle.proofs.+args+arr+atom+blk+body+bx+call+cast+cplx+ctl+dcal+decl+def+els+expr_bp+fors+gate+gdef+gph+ids+idx+if_stmt+lhs+list+meas+mods+opt+par+post+qarg+rest+ret+scal+set+sig+stmt+sts+subs+sw+tup+type_spec+width.Proof.Frame.{ids-below, idx-at, subs-below}
+use Rattle.cycle.proofs.+args+arr+atom+blk+body+bx+call+cast+cplx+ctl+dcal+decl+def+els+expr_bp+fors+gate+gdef+gph+ids+idx+if_stmt+lhs+list+meas+mods+opt+par+post+qarg+rest+ret+scal+set+sig+stmt+sts+subs+sw+tup+type_spec+width as cycle
+use cycle.Lts-idx as lts
+use cycle.Proof.Frame.{ids-below, idx-at, subs-below}
+use Rattle.cycle.proofs.idx.Kinds as kinds
+use borrow.Fn.Kinds.{In, Out}
 
 -- what the callees ask and give
 abbrev pub calls : ℕ → lts.Claims
-calls t = (ids-below t, ids.Post, unindexed-reads.Asked, unindexed-reads.Learnt, must-reads.Asked, must-reads.Learnt, precede-reads.Asked, precede-reads.Learnt, subs-below t, subs.Post, complete-reads.Asked, complete-reads.Learnt)
+calls t = (
+  ids-below t,
+  ids.Post,
+  unindexed-reads.Asked,
+  unindexed-reads.Learnt,
+  must-reads.Asked,
+  must-reads.Learnt,
+  precede-reads.Asked,
+  precede-reads.Learnt,
+  subs-below t,
+  subs.Post,
+  complete-reads.Asked,
+  complete-reads.Learnt,
+)
 
-pub ids-requires : (t : ℕ) → lts.Need-ids-requires (calls t) (idx-at t) idx.Post
-ids-requires t c κs = (omega (arith, c .before .before .before .before .before .before .pre .0), c .before .before .before .before .before .before .pre .1)
+module _ (t : ℕ) where
+  abbrev Here : (lts.Claims → In 3 kinds.ps → Out 3 kinds.ps kinds.r → Type 0) → Type 0
+  Here X = X (calls t) (idx-at t) idx.Post
 
-pub same-length : (t : ℕ) → lts.Need-same-length (calls t) (idx-at t) idx.Post
-same-length t c = c .before .before .ids .kept .1 .1 .0
+  pub ids-requires : Here lts.Need-ids-requires
+  ids-requires c κs = (
+    omega (arith, c .before .before .before .before .before .before .pre .0),
+    c .before .before .before .before
+        .before .before .pre .1,
+  )
 
-pub returns : (t : ℕ) → lts.Need-returns (calls t) (idx-at t) idx.Post
-unfolding E.indexed E.indexExpr
-returns t c = rw (eq-eqb _ _ (c .before .before .before .before .if1 .taken)) (c .before .before .ids .ensures)
+  pub same-length : Here lts.Need-same-length
+  same-length c = c .before .before .ids .kept .1 .1 .0
 
-pub unindexed-requires : (t : ℕ) → lts.Need-unindexed-requires (calls t) (idx-at t) idx.Post
-unindexed-requires t c κs = c .before .before .before .before .before .before .pre .1
+  pub returns : Here lts.Need-returns
+  unfolding E.indexed E.indexExpr
+  returns c =
+      let ids = c .before .before in
+      let if1 = ids .before .before in
+      rw (eq-eqb _ _ (if1 .if1 .taken))
+      (ids .ids .ensures)
 
-pub must-requires : (t : ℕ) → lts.Need-must-requires (calls t) (idx-at t) idx.Post
-must-requires t c κs = c .before .before .before .unindexed .ensures .fit
+  pub unindexed-requires : Here lts.Need-unindexed-requires
+  unindexed-requires c κs = c .before .before .before .before .before .before .pre .1
 
-pub precede-requires : (t : ℕ) → lts.Need-precede-requires (calls t) (idx-at t) idx.Post
-precede-requires t c κs = c .before .before .before .must .ensures .fit
+  pub must-requires : Here lts.Need-must-requires
+  must-requires c κs = c .before .before .before .unindexed .ensures .fit
 
-pub subs-requires : (t : ℕ) → lts.Need-subs-requires (calls t) (idx-at t) idx.Post
-subs-requires t c κs = (omega (arith, c .before .before .before .before .before .before .before .before .before .before .before .before .before .before .before .before .before .before .before .pre .0), c .before .before .before .before .precede .ensures .fit)
+  pub precede-requires : Here lts.Need-precede-requires
+  precede-requires c κs = c .before .before .before .must .ensures .fit
 
-pub complete-requires : (t : ℕ) → lts.Need-complete-requires (calls t) (idx-at t) idx.Post
-complete-requires t c κs = c .before .before .before .subs .ensures .fit
+  pub subs-requires : Here lts.Need-subs-requires
+  subs-requires c κs =
+      let precede = c .before .before .before .before in
+      let entry = precede .before .before .before .before .before .before .before .before .before .before .before .before .before
+      .before .before in
+      (omega (arith, entry .pre .0), precede .precede .ensures .fit)
 
-pub same-length-2 : (t : ℕ) → lts.Need-same-length-2 (calls t) (idx-at t) idx.Post
-same-length-2 t c = c .before .before .complete .kept .1 .0 ∙ c .before .before .before .before .before .before .subs .kept .1 .1 .0 ∙ c .before .before .before .before .before .before .before .before .before .before .before .precede .kept .1 .0 ∙ c .before .before .before .before .before .before .before .before .before .before .before .before .before .before .before .must .kept .1 .1 .1 .0 ∙ c .before .before .before .before .before .before .before .before .before .before .before .before .before .before .before .before .before .before .before .unindexed .kept .0
+  pub complete-requires : Here lts.Need-complete-requires
+  complete-requires c κs = c .before .before .before .subs .ensures .fit
 
-pub returns-2 : (t : ℕ) → lts.Need-returns-2 (calls t) (idx-at t) idx.Post
-unfolding E.indexed E.indexExpr
-returns-2 t c = rw (ne-eqb _ _ (c .before .before .before .before .before .before .before .before .before .before .before .before .before .before .before .before .before .before .before .before .before .if1 .left)) (step _ _ _ _ (c .before .before .before .before .before .before .before .before .before .before .before .before .before .before .before .before .before .before .before .unindexed .ensures) (then _ _ _ _ (c .before .before .before .before .before .before .before .before .before .before .before .before .before .before .before .must .ensures) (step _ _ _ _ (c .before .before .before .before .before .before .before .before .before .before .before .precede .ensures) (then _ _ _ _ (c .before .before .before .before .before .before .subs .ensures) (any _ _ _ (c .before .before .complete .ensures))))))
+  pub same-length-2 : Here lts.Need-same-length-2
+  same-length-2 c =
+      let complete = c .before .before in
+      let subs = complete .before .before .before .before in
+      let precede = subs .before .before .before .before .before in
+      let must = precede .before .before .before .before in
+      let unindexed = must .before .before .before .before in
+      complete .complete .kept .1 .0 ∙ subs .subs .kept .1 .1 .0 ∙ precede .precede .kept .1 .0 ∙ must .must .kept .1 .1 .1 .0 ∙
+      unindexed .unindexed .kept .0
+
+  pub returns-2 : Here lts.Need-returns-2
+  unfolding E.indexed E.indexExpr
+  returns-2 c =
+      let complete = c .before .before in
+      let subs = complete .before .before .before .before in
+      let precede = subs .before .before .before .before .before in
+      let must = precede .before .before .before .before in
+      let unindexed = must .before .before .before .before in
+      let if1 = unindexed .before .before in
+      rw (ne-eqb _ _ (if1 .if1 .left))
+      (step _ _ _ _ (unindexed .unindexed .ensures)
+      (then _ _ _ _ (must .must .ensures)
+      (step _ _ _ _ (precede .precede .ensures)
+      (then _ _ _ _ (subs .subs .ensures)
+      (any _ _ _ (complete .complete .ensures))))))

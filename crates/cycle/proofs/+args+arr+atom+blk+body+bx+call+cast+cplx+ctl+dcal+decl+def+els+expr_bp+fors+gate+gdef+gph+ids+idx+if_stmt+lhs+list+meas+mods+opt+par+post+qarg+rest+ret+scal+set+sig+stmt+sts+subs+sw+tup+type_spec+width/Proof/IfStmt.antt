@@ -1,11 +1,14 @@
+-- Written by tools/proofs from the code, the definitions and hints.py: docs/PRODUCTIONS.md says how to change it.
 -- `if_stmt`.
 use borrow.Author.Needs.{needs}
-use Rattle.runtime.proofs.Laws.{then, step, see, ask, any, ends}
+use Rattle.runtime.proofs.Laws.{then, step, see, any, ends}
 use Rattle.grammar.proofs.Laws.{assoc, pick-bind, done-bind}
 use native.Mathlib.Omega.{arith}
-use mathlib.Core.Path.{_∙_}
+use lib.ListN.{length}
+use mathlib.Core.Path.{_≡_, _∙_}
 use Rattle.grammar.specs.Entry.{counted}
 use Prim.Native.Nat.{ℕ}
+use Rattle.cycle.proofs.Depth.{ifStmt-deeper}
 use Rattle.grammar.specs.Items as I
 use Rattle.runtime.proofs.parser.Parser.at.Reads as at-reads
 use Rattle.runtime.proofs.parser.Parser.bump.Reads as bump-reads
@@ -17,89 +20,266 @@ use Rattle.runtime.proofs.parser.Parser.stop.Reads as stop-reads
 use Rattle.cycle.proofs.body.Reads as body
 use Rattle.cycle.proofs.expr_bp.Reads as expr-bp
 use Rattle.cycle.proofs.if_stmt.Reads as if-stmt
-use Rattle.cycle.proofs.+args+arr+atom+blk+body+bx+call+cast+cplx+ctl+dcal+decl+def+els+expr_bp+fors+gate+gdef+gph+ids+idx+if_stmt+lhs+list+meas+mods+opt+par+post+qarg+rest+ret+scal+set+sig+stmt+sts+subs+sw+tup+type_spec+width.Lts-if_stmt as lts
-use Rattle.cycle.proofs.+args+arr+atom+blk+body+bx+call+cast+cplx+ctl+dcal+decl+def+els+expr_bp+fors+gate+gdef+gph+ids+idx+if_stmt+lhs+list+meas+mods+opt+par+post+qarg+rest+ret+scal+set+sig+stmt+sts+subs+sw+tup+type_spec+width.Proof.Frame.{body-below, expr-bp-below, if-stmt-at, if-stmt-below}
-use Rattle.cycle.proofs.Depth.{ifStmt-deeper}
+use Rattle.cycle.proofs.+args+arr+atom+blk+body+bx+call+cast+cplx+ctl+dcal+decl+def+els+expr_bp+fors+gate+gdef+gph+ids+idx+if_stmt+lhs+list+meas+mods+opt+par+post+qarg+rest+ret+scal+set+sig+stmt+sts+subs+sw+tup+type_spec+width as cycle
+use cycle.Lts-if_stmt as lts
+use cycle.Proof.Frame.{body-below, expr-bp-below, if-stmt-at, if-stmt-below}
+use Rattle.cycle.proofs.if_stmt.Kinds as kinds
+use borrow.Fn.Kinds.{In, Out}
 
 -- what the callees ask and give
 abbrev pub calls : ℕ → lts.Claims
-calls t = (stop-reads.Asked, stop-reads.Learnt, must-reads.Asked, must-reads.Learnt, bump-reads.Asked, bump-reads.Learnt, expect-reads.Asked, expect-reads.Learnt, expr-bp-below t, expr-bp.Post, body-below t, body.Post, at-reads.Asked, at-reads.Learnt, start-reads.Asked, start-reads.Learnt, if-stmt-below t, if-stmt.Post, complete-reads.Asked, complete-reads.Learnt)
+calls t = (
+  stop-reads.Asked,
+  stop-reads.Learnt,
+  must-reads.Asked,
+  must-reads.Learnt,
+  bump-reads.Asked,
+  bump-reads.Learnt,
+  expect-reads.Asked,
+  expect-reads.Learnt,
+  expr-bp-below t,
+  expr-bp.Post,
+  body-below t,
+  body.Post,
+  at-reads.Asked,
+  at-reads.Learnt,
+  start-reads.Asked,
+  start-reads.Learnt,
+  if-stmt-below t,
+  if-stmt.Post,
+  complete-reads.Asked,
+  complete-reads.Learnt,
+)
 
-pub stop-requires : (t : ℕ) → lts.Need-stop-requires (calls t) (if-stmt-at t) if-stmt.Post
-stop-requires t c κs = c .before .before .before .before .before .pre .1
+module _ (t : ℕ) where
+  abbrev Here : (lts.Claims → In 3 kinds.ps → Out 3 kinds.ps kinds.r → Type 0) → Type 0
+  Here X = X (calls t) (if-stmt-at t) if-stmt.Post
 
-pub same-length : (t : ℕ) → lts.Need-same-length (calls t) (if-stmt-at t) if-stmt.Post
-same-length t c = c .before .before .stop .kept .1 .0
+  abbrev entry-bump : Here lts.After-bump → Here lts.Start
+  entry-bump c = c .before .before .before .before .before .before .before .before .before .before
 
-pub returns : (t : ℕ) → lts.Need-returns (calls t) (if-stmt-at t) if-stmt.Post
-unfolding counted
-returns t c = rw (c .before .before .before .before .if1 .taken) (any _ _ _ (c .before .before .stop .ensures))
+  abbrev entry-expr-bp-arg : Here lts.After-expr-bp-arg → Here lts.Start
+  entry-expr-bp-arg c = entry-bump (c .before .before .before .before .before .before .before .before)
 
-pub sub-d : (t : ℕ) → lts.Need-sub-d (calls t) (if-stmt-at t) if-stmt.Post
-sub-d t c = search needs
+  abbrev entry-body-arg : Here lts.After-body-arg → Here lts.Start
+  entry-body-arg c = entry-expr-bp-arg (c .before .before .before .before .before .before .before .before .before .before)
 
-pub must-requires : (t : ℕ) → lts.Need-must-requires (calls t) (if-stmt-at t) if-stmt.Post
-must-requires t c κs = c .before .before .before .before .before .pre .1
+  abbrev entry-body : Here lts.After-body → Here lts.Start
+  entry-body c = entry-body-arg (c .before)
 
-pub bump-requires : (t : ℕ) → lts.Need-bump-requires (calls t) (if-stmt-at t) if-stmt.Post
-bump-requires t c κs = c .before .before .before .must .ensures .fit
+  kept-body : (c : Here lts.After-body) → length (c .body .last .1 .1 .0) ≡ length (entry-body c .args .room .now)
+  kept-body c =
+      let expect2 = c .before .before .before .before .before in
+      let expr-bp = expect2 .before .before .before .before .before in
+      let expect = expr-bp .before .before .before .before .before in
+      let bump = expect .before .before .before .before in
+      let must = bump .before .before .before .before in
+      c .body .kept .1 .1 .0 ∙ expect2 .expect2 .kept .1 .1 .1 .0 ∙ expr-bp .expr-bp .kept .1 .1 .0 ∙ expect .expect .kept .1 .1 .1
+      .0 ∙ bump .bump .kept .1 .1 .1 .0 ∙ must .must .kept .1 .1 .1 .0
 
-pub expect-requires : (t : ℕ) → lts.Need-expect-requires (calls t) (if-stmt-at t) if-stmt.Post
-expect-requires t c κs = c .before .before .before .bump .ensures .fit
+  abbrev entry-bump2 : Here lts.After-bump2 → Here lts.Start
+  entry-bump2 c = entry-body (c .before .before .before .before .before .before)
 
-pub expr-bp-requires : (t : ℕ) → lts.Need-expr-bp-requires (calls t) (if-stmt-at t) if-stmt.Post
-expr-bp-requires t c κs = (omega (arith, c .before .before .before .before .before .before .before .before .before .before .before .before .before .before .before .before .before .before .pre .0, c .before .before .before .before .before .before .before .before .before .before .before .before .before .before .if1 .left), (c .before .before .before .before .expect .ensures .fit, search needs))
+  kept-bump2 : (c : Here lts.After-bump2) → length (c .bump2 .last .1 .1 .1 .0) ≡ length (entry-bump2 c .args .room .now)
+  kept-bump2 c = c .bump2 .kept .1 .1 .1 .0 ∙ kept-body (c .before .before .before .before .before .before)
 
-pub expect-requires-2 : (t : ℕ) → lts.Need-expect-requires-2 (calls t) (if-stmt-at t) if-stmt.Post
-expect-requires-2 t c κs = c .before .before .before .before .expr-bp .ensures .fit
+  abbrev entry-at2 : Here lts.After-at2 → Here lts.Start
+  entry-at2 c = entry-bump2 (c .before .before .before)
 
-pub body-requires : (t : ℕ) → lts.Need-body-requires (calls t) (if-stmt-at t) if-stmt.Post
-body-requires t c κs = (omega (arith, c .before .before .before .before .before .before .before .before .before .before .before .before .before .before .before .before .before .before .before .before .before .before .before .before .before .before .before .before .pre .0, c .before .before .before .before .before .before .before .before .before .before .before .before .before .before .before .before .before .before .before .before .before .before .before .before .if1 .left), c .before .before .before .before .expect2 .ensures .fit)
+  pub stop-requires : Here lts.Need-stop-requires
+  stop-requires c κs = c .before .before .before .before .before .pre .1
 
-pub at-requires : (t : ℕ) → lts.Need-at-requires (calls t) (if-stmt-at t) if-stmt.Post
-at-requires t c κs = c .before .before .body .ensures .fit
+  pub same-length : Here lts.Need-same-length
+  same-length c = c .before .before .stop .kept .1 .0
 
-pub bump-requires-2 : (t : ℕ) → lts.Need-bump-requires-2 (calls t) (if-stmt-at t) if-stmt.Post
-bump-requires-2 t c κs = c .before .before .before .before .before .body .ensures .fit
+  pub returns : Here lts.Need-returns
+  unfolding counted
+  returns c =
+      let stop = c .before .before in
+      let if1 = stop .before .before in
+      rw (if1 .if1 .taken)
+      (any _ _ _ (stop .stop .ensures))
 
-pub at-requires-2 : (t : ℕ) → lts.Need-at-requires-2 (calls t) (if-stmt-at t) if-stmt.Post
-at-requires-2 t c κs = c .before .before .bump2 .ensures .fit
+  pub sub-d : Here lts.Need-sub-d
+  sub-d c = search needs
 
-pub start-requires : (t : ℕ) → lts.Need-start-requires (calls t) (if-stmt-at t) if-stmt.Post
-start-requires t c κs = c .before .before .before .before .before .bump2 .ensures .fit
+  pub must-requires : Here lts.Need-must-requires
+  must-requires c κs = c .before .before .before .before .before .pre .1
 
-pub if-stmt-requires : (t : ℕ) → lts.Need-if-stmt-requires (calls t) (if-stmt-at t) if-stmt.Post
-if-stmt-requires t c κs = (omega (arith, c .before .before .before .before .before .before .before .before .before .before .before .before .before .before .before .before .before .before .before .before .before .before .before .before .before .before .before .before .before .before .before .before .before .before .before .before .before .before .before .before .before .before .before .before .before .pre .0, c .before .before .before .before .before .before .before .before .before .before .before .before .before .before .before .before .before .before .before .before .before .before .before .before .before .before .before .before .before .before .before .before .before .before .before .before .before .before .before .before .before .if1 .left), c .before .before .before .before .start .ensures .fit)
+  pub bump-requires : Here lts.Need-bump-requires
+  bump-requires c κs = c .before .before .before .must .ensures .fit
 
-pub complete-requires : (t : ℕ) → lts.Need-complete-requires (calls t) (if-stmt-at t) if-stmt.Post
-complete-requires t c κs = c .before .before .before .if-stmt .ensures .fit
+  pub expect-requires : Here lts.Need-expect-requires
+  expect-requires c κs = c .before .before .before .bump .ensures .fit
 
-pub same-length-2 : (t : ℕ) → lts.Need-same-length-2 (calls t) (if-stmt-at t) if-stmt.Post
-same-length-2 t c = c .before .before .before .complete .kept .1 .0 ∙ c .before .before .before .before .before .before .before .if-stmt .kept .1 .1 .0 ∙ c .before .before .before .before .before .before .before .before .before .before .before .before .start .kept .1 .0 ∙ c .before .before .before .before .before .before .before .before .before .before .before .before .before .before .before .before .before .before .bump2 .kept .1 .1 .1 .0 ∙ c .before .before .before .before .before .before .before .before .before .before .before .before .before .before .before .before .before .before .before .before .before .before .before .before .body .kept .1 .1 .0 ∙ c .before .before .before .before .before .before .before .before .before .before .before .before .before .before .before .before .before .before .before .before .before .before .before .before .before .before .before .before .before .expect2 .kept .1 .1 .1 .0 ∙ c .before .before .before .before .before .before .before .before .before .before .before .before .before .before .before .before .before .before .before .before .before .before .before .before .before .before .before .before .before .before .before .before .before .before .expr-bp .kept .1 .1 .0 ∙ c .before .before .before .before .before .before .before .before .before .before .before .before .before .before .before .before .before .before .before .before .before .before .before .before .before .before .before .before .before .before .before .before .before .before .before .before .before .before .before .expect .kept .1 .1 .1 .0 ∙ c .before .before .before .before .before .before .before .before .before .before .before .before .before .before .before .before .before .before .before .before .before .before .before .before .before .before .before .before .before .before .before .before .before .before .before .before .before .before .before .before .before .before .before .bump .kept .1 .1 .1 .0 ∙ c .before .before .before .before .before .before .before .before .before .before .before .before .before .before .before .before .before .before .before .before .before .before .before .before .before .before .before .before .before .before .before .before .before .before .before .before .before .before .before .before .before .before .before .before .before .before .before .must .kept .1 .1 .1 .0
+  pub expr-bp-requires : Here lts.Need-expr-bp-requires
+  expr-bp-requires c κs =
+      let expect = c .before .before .before .before in
+      let if1 = expect .before .before .before .before .before .before .before .before .before .before in
+      (omega (arith, entry-expr-bp-arg c .pre .0, if1 .if1 .left), (expect .expect .ensures .fit, search needs))
 
-pub returns-2 : (t : ℕ) → lts.Need-returns-2 (calls t) (if-stmt-at t) if-stmt.Post
-unfolding I.ifStmt
-returns-2 t c = ifStmt-deeper _ _ _ _ _ (c .before .before .before .before .before .before .before .before .before .before .before .before .before .before .before .before .before .before .before .before .before .before .before .before .before .before .before .before .before .before .before .before .before .before .before .before .before .before .before .before .before .before .before .before .before .before .before .before .before .if1 .left) (simp (assoc, pick-bind, done-bind) (then _ _ _ _ (c .before .before .before .before .before .before .before .before .before .before .before .before .before .before .before .before .before .before .before .before .before .before .before .before .before .before .before .before .before .before .before .before .before .before .before .before .before .before .before .before .before .before .before .before .before .before .before .must .ensures) (then _ _ _ _ (c .before .before .before .before .before .before .before .before .before .before .before .before .before .before .before .before .before .before .before .before .before .before .before .before .before .before .before .before .before .before .before .before .before .before .before .before .before .before .before .before .before .before .before .bump .ensures) (then _ _ _ _ (c .before .before .before .before .before .before .before .before .before .before .before .before .before .before .before .before .before .before .before .before .before .before .before .before .before .before .before .before .before .before .before .before .before .before .before .before .before .before .before .expect .ensures) (then _ _ _ _ (c .before .before .before .before .before .before .before .before .before .before .before .before .before .before .before .before .before .before .before .before .before .before .before .before .before .before .before .before .before .before .before .before .before .before .expr-bp .ensures) (then _ _ _ _ (c .before .before .before .before .before .before .before .before .before .before .before .before .before .before .before .before .before .before .before .before .before .before .before .before .before .before .before .before .before .expect2 .ensures) (then _ _ _ _ (c .before .before .before .before .before .before .before .before .before .before .before .before .before .before .before .before .before .before .before .before .before .before .before .before .body .ensures) (see _ _ _ _ (c .before .before .before .before .before .before .before .before .before .before .before .before .before .before .before .before .before .before .before .before .before .at .ensures) (rw (c .before .before .before .before .before .before .before .before .before .before .before .before .before .before .before .before .before .before .before .before .if2 .taken) (then _ _ _ _ (c .before .before .before .before .before .before .before .before .before .before .before .before .before .before .before .before .before .before .bump2 .ensures) (see _ _ _ _ (c .before .before .before .before .before .before .before .before .before .before .before .before .before .before .before .at2 .ensures) (rw (c .before .before .before .before .before .before .before .before .before .before .before .before .before .before .if3 .taken) (step _ _ _ _ (c .before .before .before .before .before .before .before .before .before .before .before .before .start .ensures) (then _ _ _ _ (c .before .before .before .before .before .before .before .if-stmt .ensures) (step _ _ _ _ (c .before .before .before .complete .ensures) (ends _ _ _ (c .before .before .before .complete .ensures .fit)))))))))))))))))
+  pub expect-requires-2 : Here lts.Need-expect-requires-2
+  expect-requires-2 c κs = c .before .before .before .before .expr-bp .ensures .fit
 
-pub body-requires-2 : (t : ℕ) → lts.Need-body-requires-2 (calls t) (if-stmt-at t) if-stmt.Post
-body-requires-2 t c κs = (omega (arith, c .before .before .before .before .before .before .before .before .before .before .before .before .before .before .before .before .before .before .before .before .before .before .before .before .before .before .before .before .before .before .before .before .before .before .before .before .before .before .before .before .pre .0, c .before .before .before .before .before .before .before .before .before .before .before .before .before .before .before .before .before .before .before .before .before .before .before .before .before .before .before .before .before .before .before .before .before .before .before .before .if1 .left), c .before .before .before .before .before .bump2 .ensures .fit)
+  pub body-requires : Here lts.Need-body-requires
+  body-requires c κs =
+      let expect2 = c .before .before .before .before in
+      let if1 = expect2 .before .before .before .before .before .before .before .before .before .before .before .before .before
+      .before .before .before .before .before .before .before in
+      (omega (arith, entry-body-arg c .pre .0, if1 .if1 .left), expect2 .expect2 .ensures .fit)
 
-pub complete-requires-2 : (t : ℕ) → lts.Need-complete-requires-2 (calls t) (if-stmt-at t) if-stmt.Post
-complete-requires-2 t c κs = c .before .before .before .body2 .ensures .fit
+  pub at-requires : Here lts.Need-at-requires
+  at-requires c κs = c .before .before .body .ensures .fit
 
-pub same-length-3 : (t : ℕ) → lts.Need-same-length-3 (calls t) (if-stmt-at t) if-stmt.Post
-same-length-3 t c = c .before .before .before .complete2 .kept .1 .0 ∙ c .before .before .before .before .before .before .before .body2 .kept .1 .1 .0 ∙ c .before .before .before .before .before .before .before .before .before .before .before .before .before .bump2 .kept .1 .1 .1 .0 ∙ c .before .before .before .before .before .before .before .before .before .before .before .before .before .before .before .before .before .before .before .body .kept .1 .1 .0 ∙ c .before .before .before .before .before .before .before .before .before .before .before .before .before .before .before .before .before .before .before .before .before .before .before .before .expect2 .kept .1 .1 .1 .0 ∙ c .before .before .before .before .before .before .before .before .before .before .before .before .before .before .before .before .before .before .before .before .before .before .before .before .before .before .before .before .before .expr-bp .kept .1 .1 .0 ∙ c .before .before .before .before .before .before .before .before .before .before .before .before .before .before .before .before .before .before .before .before .before .before .before .before .before .before .before .before .before .before .before .before .before .before .expect .kept .1 .1 .1 .0 ∙ c .before .before .before .before .before .before .before .before .before .before .before .before .before .before .before .before .before .before .before .before .before .before .before .before .before .before .before .before .before .before .before .before .before .before .before .before .before .before .bump .kept .1 .1 .1 .0 ∙ c .before .before .before .before .before .before .before .before .before .before .before .before .before .before .before .before .before .before .before .before .before .before .before .before .before .before .before .before .before .before .before .before .before .before .before .before .before .before .before .before .before .before .must .kept .1 .1 .1 .0
+  pub bump-requires-2 : Here lts.Need-bump-requires-2
+  bump-requires-2 c κs = c .before .before .before .before .before .body .ensures .fit
 
-pub returns-3 : (t : ℕ) → lts.Need-returns-3 (calls t) (if-stmt-at t) if-stmt.Post
-unfolding I.ifStmt
-returns-3 t c = ifStmt-deeper _ _ _ _ _ (c .before .before .before .before .before .before .before .before .before .before .before .before .before .before .before .before .before .before .before .before .before .before .before .before .before .before .before .before .before .before .before .before .before .before .before .before .before .before .before .before .before .before .before .before .if1 .left) (simp (assoc, pick-bind, done-bind) (then _ _ _ _ (c .before .before .before .before .before .before .before .before .before .before .before .before .before .before .before .before .before .before .before .before .before .before .before .before .before .before .before .before .before .before .before .before .before .before .before .before .before .before .before .before .before .before .must .ensures) (then _ _ _ _ (c .before .before .before .before .before .before .before .before .before .before .before .before .before .before .before .before .before .before .before .before .before .before .before .before .before .before .before .before .before .before .before .before .before .before .before .before .before .before .bump .ensures) (then _ _ _ _ (c .before .before .before .before .before .before .before .before .before .before .before .before .before .before .before .before .before .before .before .before .before .before .before .before .before .before .before .before .before .before .before .before .before .before .expect .ensures) (then _ _ _ _ (c .before .before .before .before .before .before .before .before .before .before .before .before .before .before .before .before .before .before .before .before .before .before .before .before .before .before .before .before .before .expr-bp .ensures) (then _ _ _ _ (c .before .before .before .before .before .before .before .before .before .before .before .before .before .before .before .before .before .before .before .before .before .before .before .before .expect2 .ensures) (then _ _ _ _ (c .before .before .before .before .before .before .before .before .before .before .before .before .before .before .before .before .before .before .before .body .ensures) (see _ _ _ _ (c .before .before .before .before .before .before .before .before .before .before .before .before .before .before .before .before .at .ensures) (rw (c .before .before .before .before .before .before .before .before .before .before .before .before .before .before .before .if2 .taken) (then _ _ _ _ (c .before .before .before .before .before .before .before .before .before .before .before .before .before .bump2 .ensures) (see _ _ _ _ (c .before .before .before .before .before .before .before .before .before .before .at2 .ensures) (rw (c .before .before .before .before .before .before .before .before .before .if3 .left) (then _ _ _ _ (c .before .before .before .before .before .before .before .body2 .ensures) (step _ _ _ _ (c .before .before .before .complete2 .ensures) (ends _ _ _ (c .before .before .before .complete2 .ensures .fit))))))))))))))))
+  pub at-requires-2 : Here lts.Need-at-requires-2
+  at-requires-2 c κs = c .before .before .bump2 .ensures .fit
 
-pub complete-requires-3 : (t : ℕ) → lts.Need-complete-requires-3 (calls t) (if-stmt-at t) if-stmt.Post
-complete-requires-3 t c κs = c .before .before .before .before .before .body .ensures .fit
+  pub start-requires : Here lts.Need-start-requires
+  start-requires c κs = c .before .before .before .before .before .bump2 .ensures .fit
 
-pub same-length-4 : (t : ℕ) → lts.Need-same-length-4 (calls t) (if-stmt-at t) if-stmt.Post
-same-length-4 t c = c .before .before .before .complete3 .kept .1 .0 ∙ c .before .before .before .before .before .before .before .before .before .body .kept .1 .1 .0 ∙ c .before .before .before .before .before .before .before .before .before .before .before .before .before .before .expect2 .kept .1 .1 .1 .0 ∙ c .before .before .before .before .before .before .before .before .before .before .before .before .before .before .before .before .before .before .before .expr-bp .kept .1 .1 .0 ∙ c .before .before .before .before .before .before .before .before .before .before .before .before .before .before .before .before .before .before .before .before .before .before .before .before .expect .kept .1 .1 .1 .0 ∙ c .before .before .before .before .before .before .before .before .before .before .before .before .before .before .before .before .before .before .before .before .before .before .before .before .before .before .before .before .bump .kept .1 .1 .1 .0 ∙ c .before .before .before .before .before .before .before .before .before .before .before .before .before .before .before .before .before .before .before .before .before .before .before .before .before .before .before .before .before .before .before .before .must .kept .1 .1 .1 .0
+  pub if-stmt-requires : Here lts.Need-if-stmt-requires
+  if-stmt-requires c κs =
+      let start = c .before .before .before .before in
+      let at2 = start .before .before .before in
+      let if1 = at2 .before .before .before .before .before .before .before .before .before .before .before .before .before .before
+      .before .before .before .before .before .before .before .before .before .before .before .before .before .before .before
+      .before .before .before .before .before in
+      (omega (arith, entry-at2 at2 .pre .0, if1 .if1 .left), start .start .ensures .fit)
 
-pub returns-4 : (t : ℕ) → lts.Need-returns-4 (calls t) (if-stmt-at t) if-stmt.Post
-unfolding I.ifStmt
-returns-4 t c = ifStmt-deeper _ _ _ _ _ (c .before .before .before .before .before .before .before .before .before .before .before .before .before .before .before .before .before .before .before .before .before .before .before .before .before .before .before .before .before .before .before .before .before .before .if1 .left) (simp (assoc, pick-bind, done-bind) (then _ _ _ _ (c .before .before .before .before .before .before .before .before .before .before .before .before .before .before .before .before .before .before .before .before .before .before .before .before .before .before .before .before .before .before .before .before .must .ensures) (then _ _ _ _ (c .before .before .before .before .before .before .before .before .before .before .before .before .before .before .before .before .before .before .before .before .before .before .before .before .before .before .before .before .bump .ensures) (then _ _ _ _ (c .before .before .before .before .before .before .before .before .before .before .before .before .before .before .before .before .before .before .before .before .before .before .before .before .expect .ensures) (then _ _ _ _ (c .before .before .before .before .before .before .before .before .before .before .before .before .before .before .before .before .before .before .before .expr-bp .ensures) (then _ _ _ _ (c .before .before .before .before .before .before .before .before .before .before .before .before .before .before .expect2 .ensures) (then _ _ _ _ (c .before .before .before .before .before .before .before .before .before .body .ensures) (see _ _ _ _ (c .before .before .before .before .before .before .at .ensures) (rw (c .before .before .before .before .before .if2 .left) (step _ _ _ _ (c .before .before .before .complete3 .ensures) (ends _ _ _ (c .before .before .before .complete3 .ensures .fit))))))))))))
+  pub complete-requires : Here lts.Need-complete-requires
+  complete-requires c κs = c .before .before .before .if-stmt .ensures .fit
+
+  pub same-length-2 : Here lts.Need-same-length-2
+  same-length-2 c =
+      let complete = c .before .before .before in
+      let if-stmt = complete .before .before .before .before in
+      let start = if-stmt .before .before .before .before .before in
+      let bump2 = start .before .before .before .before .before .before in
+      complete .complete .kept .1 .0 ∙ if-stmt .if-stmt .kept .1 .1 .0 ∙ start .start .kept .1 .0 ∙ kept-bump2 bump2
+
+  pub returns-2 : Here lts.Need-returns-2
+  unfolding I.ifStmt
+  returns-2 c =
+      let complete = c .before .before .before in
+      let if-stmt = complete .before .before .before .before in
+      let start = if-stmt .before .before .before .before .before in
+      let if3 = start .before .before in
+      let at2 = if3 .before in
+      let bump2 = at2 .before .before .before in
+      let if2 = bump2 .before .before in
+      let at = if2 .before in
+      let body = at .before .before .before in
+      let expect2 = body .before .before .before .before .before in
+      let expr-bp = expect2 .before .before .before .before .before in
+      let expect = expr-bp .before .before .before .before .before in
+      let bump = expect .before .before .before .before in
+      let must = bump .before .before .before .before in
+      let if1 = must .before .before in
+      ifStmt-deeper _ _ _ _ _ (if1 .if1 .left)
+      (simp (assoc, pick-bind, done-bind)
+      (then _ _ _ _ (must .must .ensures)
+      (then _ _ _ _ (bump .bump .ensures)
+      (then _ _ _ _ (expect .expect .ensures)
+      (then _ _ _ _ (expr-bp .expr-bp .ensures)
+      (then _ _ _ _ (expect2 .expect2 .ensures)
+      (then _ _ _ _ (body .body .ensures)
+      (see _ _ _ _ (at .at .ensures)
+      (rw (if2 .if2 .taken)
+      (then _ _ _ _ (bump2 .bump2 .ensures)
+      (see _ _ _ _ (at2 .at2 .ensures)
+      (rw (if3 .if3 .taken)
+      (step _ _ _ _ (start .start .ensures)
+      (then _ _ _ _ (if-stmt .if-stmt .ensures)
+      (step _ _ _ _ (complete .complete .ensures)
+      (ends _ _ _ (complete .complete .ensures .fit)))))))))))))))))
+
+  pub body-requires-2 : Here lts.Need-body-requires-2
+  body-requires-2 c κs =
+      let at2 = c .before .before in
+      let bump2 = at2 .before .before .before in
+      let if1 = bump2 .before .before .before .before .before .before .before .before .before .before .before .before .before
+      .before .before .before .before .before .before .before .before .before .before .before .before .before .before .before
+      .before .before .before in
+      (omega (arith, entry-at2 at2 .pre .0, if1 .if1 .left), bump2 .bump2 .ensures .fit)
+
+  pub complete-requires-2 : Here lts.Need-complete-requires-2
+  complete-requires-2 c κs = c .before .before .before .body2 .ensures .fit
+
+  pub same-length-3 : Here lts.Need-same-length-3
+  same-length-3 c =
+      let complete2 = c .before .before .before in
+      let body2 = complete2 .before .before .before .before in
+      let bump2 = body2 .before .before .before .before .before .before in
+      complete2 .complete2 .kept .1 .0 ∙ body2 .body2 .kept .1 .1 .0 ∙ kept-bump2 bump2
+
+  pub returns-3 : Here lts.Need-returns-3
+  unfolding I.ifStmt
+  returns-3 c =
+      let complete2 = c .before .before .before in
+      let body2 = complete2 .before .before .before .before in
+      let if3 = body2 .before .before in
+      let at2 = if3 .before in
+      let bump2 = at2 .before .before .before in
+      let if2 = bump2 .before .before in
+      let at = if2 .before in
+      let body = at .before .before .before in
+      let expect2 = body .before .before .before .before .before in
+      let expr-bp = expect2 .before .before .before .before .before in
+      let expect = expr-bp .before .before .before .before .before in
+      let bump = expect .before .before .before .before in
+      let must = bump .before .before .before .before in
+      let if1 = must .before .before in
+      ifStmt-deeper _ _ _ _ _ (if1 .if1 .left)
+      (simp (assoc, pick-bind, done-bind)
+      (then _ _ _ _ (must .must .ensures)
+      (then _ _ _ _ (bump .bump .ensures)
+      (then _ _ _ _ (expect .expect .ensures)
+      (then _ _ _ _ (expr-bp .expr-bp .ensures)
+      (then _ _ _ _ (expect2 .expect2 .ensures)
+      (then _ _ _ _ (body .body .ensures)
+      (see _ _ _ _ (at .at .ensures)
+      (rw (if2 .if2 .taken)
+      (then _ _ _ _ (bump2 .bump2 .ensures)
+      (see _ _ _ _ (at2 .at2 .ensures)
+      (rw (if3 .if3 .left)
+      (then _ _ _ _ (body2 .body2 .ensures)
+      (step _ _ _ _ (complete2 .complete2 .ensures)
+      (ends _ _ _ (complete2 .complete2 .ensures .fit))))))))))))))))
+
+  pub complete-requires-3 : Here lts.Need-complete-requires-3
+  complete-requires-3 c κs = c .before .before .before .before .before .body .ensures .fit
+
+  pub same-length-4 : Here lts.Need-same-length-4
+  same-length-4 c =
+      let complete3 = c .before .before .before in
+      let body = complete3 .before .before .before .before .before .before in
+      complete3 .complete3 .kept .1 .0 ∙ kept-body body
+
+  pub returns-4 : Here lts.Need-returns-4
+  unfolding I.ifStmt
+  returns-4 c =
+      let complete3 = c .before .before .before in
+      let if2 = complete3 .before .before in
+      let at = if2 .before in
+      let body = at .before .before .before in
+      let expect2 = body .before .before .before .before .before in
+      let expr-bp = expect2 .before .before .before .before .before in
+      let expect = expr-bp .before .before .before .before .before in
+      let bump = expect .before .before .before .before in
+      let must = bump .before .before .before .before in
+      let if1 = must .before .before in
+      ifStmt-deeper _ _ _ _ _ (if1 .if1 .left)
+      (simp (assoc, pick-bind, done-bind)
+      (then _ _ _ _ (must .must .ensures)
+      (then _ _ _ _ (bump .bump .ensures)
+      (then _ _ _ _ (expect .expect .ensures)
+      (then _ _ _ _ (expr-bp .expr-bp .ensures)
+      (then _ _ _ _ (expect2 .expect2 .ensures)
+      (then _ _ _ _ (body .body .ensures)
+      (see _ _ _ _ (at .at .ensures)
+      (rw (if2 .if2 .left)
+      (step _ _ _ _ (complete3 .complete3 .ensures)
+      (ends _ _ _ (complete3 .complete3 .ensures .fit))))))))))))

@@ -1,6 +1,6 @@
+-- Written by tools/proofs from the code, the definitions and hints.py: docs/PRODUCTIONS.md says how to change it.
 -- `rest`.
-use borrow.Author.Needs.{needs}
-use Rattle.runtime.proofs.Laws.{then, step, see, ask, ends}
+use Rattle.runtime.proofs.Laws.{then, step, see, ends}
 use Rattle.grammar.proofs.Laws.{assoc, pick-bind, done-bind}
 use native.Mathlib.Omega.{arith}
 use mathlib.Core.Path.{_∙_}
@@ -11,41 +11,95 @@ use Rattle.runtime.proofs.parser.Parser.complete.Reads as complete-reads
 use Rattle.cycle.proofs.blk.Reads as blk
 use Rattle.cycle.proofs.rest.Reads as rest
 use Rattle.cycle.proofs.stmt.Reads as stmt
-use Rattle.cycle.proofs.+args+arr+atom+blk+body+bx+call+cast+cplx+ctl+dcal+decl+def+els+expr_bp+fors+gate+gdef+gph+ids+idx+if_stmt+lhs+list+meas+mods+opt+par+post+qarg+rest+ret+scal+set+sig+stmt+sts+subs+sw+tup+type_spec+width.Lts-rest as lts
-use Rattle.cycle.proofs.+args+arr+atom+blk+body+bx+call+cast+cplx+ctl+dcal+decl+def+els+expr_bp+fors+gate+gdef+gph+ids+idx+if_stmt+lhs+list+meas+mods+opt+par+post+qarg+rest+ret+scal+set+sig+stmt+sts+subs+sw+tup+type_spec+width.Proof.Frame.{blk-below, rest-at, stmt-below}
+use Rattle.cycle.proofs.+args+arr+atom+blk+body+bx+call+cast+cplx+ctl+dcal+decl+def+els+expr_bp+fors+gate+gdef+gph+ids+idx+if_stmt+lhs+list+meas+mods+opt+par+post+qarg+rest+ret+scal+set+sig+stmt+sts+subs+sw+tup+type_spec+width as cycle
+use cycle.Lts-rest as lts
+use cycle.Proof.Frame.{blk-below, rest-at, stmt-below}
+use Rattle.cycle.proofs.rest.Kinds as kinds
+use borrow.Fn.Kinds.{In, Out}
 
 -- what the callees ask and give
 abbrev pub calls : ℕ → lts.Claims
-calls t = (complete-reads.Asked, complete-reads.Learnt, at-reads.Asked, at-reads.Learnt, blk-below t, blk.Post, stmt-below t, stmt.Post)
+calls t = (
+  complete-reads.Asked,
+  complete-reads.Learnt,
+  at-reads.Asked,
+  at-reads.Learnt,
+  blk-below t,
+  blk.Post,
+  stmt-below t,
+  stmt.Post,
+)
 
-pub complete-requires : (t : ℕ) → lts.Need-complete-requires (calls t) (rest-at t) rest.Post
-complete-requires t c κs = c .before .before .before .before .pre .1
+module _ (t : ℕ) where
+  abbrev Here : (lts.Claims → In 3 kinds.ps → Out 3 kinds.ps kinds.r → Type 0) → Type 0
+  Here X = X (calls t) (rest-at t) rest.Post
 
-pub at-requires : (t : ℕ) → lts.Need-at-requires (calls t) (rest-at t) rest.Post
-at-requires t c κs = c .before .before .before .complete .ensures .fit
+  pub complete-requires : Here lts.Need-complete-requires
+  complete-requires c κs = c .before .before .before .before .pre .1
 
-pub blk-requires : (t : ℕ) → lts.Need-blk-requires (calls t) (rest-at t) rest.Post
-blk-requires t c κs = (omega (arith, c .before .before .before .before .before .before .before .before .before .before .before .pre .0), c .before .before .before .before .before .before .complete .ensures .fit)
+  pub at-requires : Here lts.Need-at-requires
+  at-requires c κs = c .before .before .before .complete .ensures .fit
 
-pub complete-requires-2 : (t : ℕ) → lts.Need-complete-requires-2 (calls t) (rest-at t) rest.Post
-complete-requires-2 t c κs = c .before .before .before .before .blk .ensures .fit
+  pub blk-requires : Here lts.Need-blk-requires
+  blk-requires c κs =
+      let complete = c .before .before .before .before .before .before in
+      let entry = complete .before .before .before .before .before in
+      (omega (arith, entry .pre .0), complete .complete .ensures .fit)
 
-pub same-length : (t : ℕ) → lts.Need-same-length (calls t) (rest-at t) rest.Post
-same-length t c = c .before .before .before .complete2 .kept .1 .0 ∙ c .before .before .before .before .before .before .before .before .blk .kept .1 .1 .0 ∙ c .before .before .before .before .before .before .before .before .before .before .before .before .before .before .before .complete .kept .1 .0
+  pub complete-requires-2 : Here lts.Need-complete-requires-2
+  complete-requires-2 c κs = c .before .before .before .before .blk .ensures .fit
 
-pub returns : (t : ℕ) → lts.Need-returns (calls t) (rest-at t) rest.Post
-unfolding I.forRest
-returns t c = simp (assoc, pick-bind, done-bind) (step _ _ _ _ (c .before .before .before .before .before .before .before .before .before .before .before .before .before .before .before .complete .ensures) (see _ _ _ _ (c .before .before .before .before .before .before .before .before .before .before .before .at .ensures) (rw (c .before .before .before .before .before .before .before .before .before .before .if1 .taken) (then _ _ _ _ (c .before .before .before .before .before .before .before .before .blk .ensures) (step _ _ _ _ (c .before .before .before .complete2 .ensures) (ends _ _ _ (c .before .before .before .complete2 .ensures .fit)))))))
+  pub same-length : Here lts.Need-same-length
+  same-length c =
+      let complete2 = c .before .before .before in
+      let blk = complete2 .before .before .before .before .before in
+      let complete = blk .before .before .before .before .before .before .before in
+      complete2 .complete2 .kept .1 .0 ∙ blk .blk .kept .1 .1 .0 ∙ complete .complete .kept .1 .0
 
-pub stmt-requires : (t : ℕ) → lts.Need-stmt-requires (calls t) (rest-at t) rest.Post
-stmt-requires t c κs = (omega (arith, c .before .before .before .before .before .before .before .before .before .before .before .pre .0), c .before .before .before .before .before .before .complete .ensures .fit)
+  pub returns : Here lts.Need-returns
+  unfolding I.forRest
+  returns c =
+      let complete2 = c .before .before .before in
+      let blk = complete2 .before .before .before .before .before in
+      let if1 = blk .before .before in
+      let at = if1 .before in
+      let complete = at .before .before .before .before in
+      simp (assoc, pick-bind, done-bind)
+      (step _ _ _ _ (complete .complete .ensures)
+      (see _ _ _ _ (at .at .ensures)
+      (rw (if1 .if1 .taken)
+      (then _ _ _ _ (blk .blk .ensures)
+      (step _ _ _ _ (complete2 .complete2 .ensures)
+      (ends _ _ _ (complete2 .complete2 .ensures .fit)))))))
 
-pub complete-requires-3 : (t : ℕ) → lts.Need-complete-requires-3 (calls t) (rest-at t) rest.Post
-complete-requires-3 t c κs = c .before .before .before .stmt .ensures .fit
+  pub stmt-requires : Here lts.Need-stmt-requires
+  stmt-requires c κs =
+      let complete = c .before .before .before .before .before .before in
+      let entry = complete .before .before .before .before .before in
+      (omega (arith, entry .pre .0), complete .complete .ensures .fit)
 
-pub same-length-2 : (t : ℕ) → lts.Need-same-length-2 (calls t) (rest-at t) rest.Post
-same-length-2 t c = c .before .before .before .complete3 .kept .1 .0 ∙ c .before .before .before .before .before .before .before .stmt .kept .1 .1 .0 ∙ c .before .before .before .before .before .before .before .before .before .before .before .before .before .before .complete .kept .1 .0
+  pub complete-requires-3 : Here lts.Need-complete-requires-3
+  complete-requires-3 c κs = c .before .before .before .stmt .ensures .fit
 
-pub returns-2 : (t : ℕ) → lts.Need-returns-2 (calls t) (rest-at t) rest.Post
-unfolding I.forRest
-returns-2 t c = simp (assoc, pick-bind, done-bind) (step _ _ _ _ (c .before .before .before .before .before .before .before .before .before .before .before .before .before .before .complete .ensures) (see _ _ _ _ (c .before .before .before .before .before .before .before .before .before .before .at .ensures) (rw (c .before .before .before .before .before .before .before .before .before .if1 .left) (then _ _ _ _ (c .before .before .before .before .before .before .before .stmt .ensures) (step _ _ _ _ (c .before .before .before .complete3 .ensures) (ends _ _ _ (c .before .before .before .complete3 .ensures .fit)))))))
+  pub same-length-2 : Here lts.Need-same-length-2
+  same-length-2 c =
+      let complete3 = c .before .before .before in
+      let stmt = complete3 .before .before .before .before in
+      let complete = stmt .before .before .before .before .before .before .before in
+      complete3 .complete3 .kept .1 .0 ∙ stmt .stmt .kept .1 .1 .0 ∙ complete .complete .kept .1 .0
+
+  pub returns-2 : Here lts.Need-returns-2
+  unfolding I.forRest
+  returns-2 c =
+      let complete3 = c .before .before .before in
+      let stmt = complete3 .before .before .before .before in
+      let if1 = stmt .before .before in
+      let at = if1 .before in
+      let complete = at .before .before .before .before in
+      simp (assoc, pick-bind, done-bind)
+      (step _ _ _ _ (complete .complete .ensures)
+      (see _ _ _ _ (at .at .ensures)
+      (rw (if1 .if1 .left)
+      (then _ _ _ _ (stmt .stmt .ensures)
+      (step _ _ _ _ (complete3 .complete3 .ensures)
+      (ends _ _ _ (complete3 .complete3 .ensures .fit)))))))

@@ -1,9 +1,11 @@
+-- Written by tools/proofs from the code, the definitions and hints.py: docs/PRODUCTIONS.md says how to change it.
 -- `ret`.
 use borrow.Author.Needs.{needs}
-use Rattle.runtime.proofs.Laws.{then, step, peek, ask, any}
+use Rattle.runtime.proofs.Laws.{then, step, peek, any}
 use Rattle.grammar.proofs.Laws.{assoc, pick-bind, done-bind}
 use native.Mathlib.Omega.{arith}
-use mathlib.Core.Path.{_∙_}
+use lib.ListN.{length}
+use mathlib.Core.Path.{_≡_, _∙_}
 use Prim.Native.Nat.{ℕ}
 use Rattle.grammar.specs.Atom as A
 use Rattle.runtime.proofs.parser.Parser.at_ts.Reads as at-ts-reads
@@ -13,44 +15,115 @@ use Rattle.runtime.proofs.parser.Parser.must.Reads as must-reads
 use Rattle.runtime.proofs.parser.Parser.start.Reads as start-reads
 use Rattle.cycle.proofs.expr_bp.Reads as expr-bp
 use Rattle.cycle.proofs.ret.Reads as ret
-use Rattle.cycle.proofs.+args+arr+atom+blk+body+bx+call+cast+cplx+ctl+dcal+decl+def+els+expr_bp+fors+gate+gdef+gph+ids+idx+if_stmt+lhs+list+meas+mods+opt+par+post+qarg+rest+ret+scal+set+sig+stmt+sts+subs+sw+tup+type_spec+width.Lts-ret as lts
-use Rattle.cycle.proofs.+args+arr+atom+blk+body+bx+call+cast+cplx+ctl+dcal+decl+def+els+expr_bp+fors+gate+gdef+gph+ids+idx+if_stmt+lhs+list+meas+mods+opt+par+post+qarg+rest+ret+scal+set+sig+stmt+sts+subs+sw+tup+type_spec+width.Proof.Frame.{expr-bp-below, ret-at}
+use Rattle.cycle.proofs.+args+arr+atom+blk+body+bx+call+cast+cplx+ctl+dcal+decl+def+els+expr_bp+fors+gate+gdef+gph+ids+idx+if_stmt+lhs+list+meas+mods+opt+par+post+qarg+rest+ret+scal+set+sig+stmt+sts+subs+sw+tup+type_spec+width as cycle
+use cycle.Lts-ret as lts
+use cycle.Proof.Frame.{expr-bp-below, ret-at}
+use Rattle.cycle.proofs.ret.Kinds as kinds
+use borrow.Fn.Kinds.{In, Out}
 
 -- what the callees ask and give
 abbrev pub calls : ℕ → lts.Claims
-calls t = (must-reads.Asked, must-reads.Learnt, start-reads.Asked, start-reads.Learnt, bump-any-reads.Asked, bump-any-reads.Learnt, at-ts-reads.Asked, at-ts-reads.Learnt, expr-bp-below t, expr-bp.Post, complete-reads.Asked, complete-reads.Learnt)
+calls t = (
+  must-reads.Asked,
+  must-reads.Learnt,
+  start-reads.Asked,
+  start-reads.Learnt,
+  bump-any-reads.Asked,
+  bump-any-reads.Learnt,
+  at-ts-reads.Asked,
+  at-ts-reads.Learnt,
+  expr-bp-below t,
+  expr-bp.Post,
+  complete-reads.Asked,
+  complete-reads.Learnt,
+)
 
-pub must-requires : (t : ℕ) → lts.Need-must-requires (calls t) (ret-at t) ret.Post
-must-requires t c κs = c .before .before .before .before .pre .1
+module _ (t : ℕ) where
+  abbrev Here : (lts.Claims → In 3 kinds.ps → Out 3 kinds.ps kinds.r → Type 0) → Type 0
+  Here X = X (calls t) (ret-at t) ret.Post
 
-pub start-requires : (t : ℕ) → lts.Need-start-requires (calls t) (ret-at t) ret.Post
-start-requires t c κs = c .before .before .before .must .ensures .fit
+  abbrev entry-must : Here lts.After-must → Here lts.Start
+  entry-must c = c .before .before .before .before .before
 
-pub bump-any-requires : (t : ℕ) → lts.Need-bump-any-requires (calls t) (ret-at t) ret.Post
-bump-any-requires t c κs = c .before .before .before .before .start .ensures .fit
+  abbrev entry-bump-any : Here lts.After-bump-any → Here lts.Start
+  entry-bump-any c = entry-must (c .before .before .before .before .before .before .before .before .before)
 
-pub at-ts-requires : (t : ℕ) → lts.Need-at-ts-requires (calls t) (ret-at t) ret.Post
-at-ts-requires t c κs = c .before .before .bump-any .ensures .fit
+  kept-bump-any : (c : Here lts.After-bump-any) → length (c .bump-any .last .1 .1 .1 .0) ≡ length (entry-bump-any c .args .room
+      .now)
+  kept-bump-any c =
+      let start = c .before .before .before .before .before in
+      let must = start .before .before .before .before in
+      c .bump-any .kept .1 .1 .1 .0 ∙ start .start .kept .1 .0 ∙ must .must .kept .1 .1 .1 .0
 
-pub expr-bp-requires : (t : ℕ) → lts.Need-expr-bp-requires (calls t) (ret-at t) ret.Post
-expr-bp-requires t c κs = (omega (arith, c .before .before .before .before .before .before .before .before .before .before .before .before .before .before .before .before .before .before .before .before .pre .0), (c .before .before .before .at-ts .ensures .fit, search needs))
+  pub must-requires : Here lts.Need-must-requires
+  must-requires c κs = c .before .before .before .before .pre .1
 
-pub complete-requires : (t : ℕ) → lts.Need-complete-requires (calls t) (ret-at t) ret.Post
-complete-requires t c κs = c .before .before .before .before .expr-bp .ensures .fit
+  pub start-requires : Here lts.Need-start-requires
+  start-requires c κs = c .before .before .before .must .ensures .fit
 
-pub same-length : (t : ℕ) → lts.Need-same-length (calls t) (ret-at t) ret.Post
-same-length t c = c .before .before .complete .kept .1 .0 ∙ c .before .before .before .before .before .before .before .expr-bp .kept .1 .1 .0 ∙ c .before .before .before .before .before .before .before .before .before .before .before .before .before .before .bump-any .kept .1 .1 .1 .0 ∙ c .before .before .before .before .before .before .before .before .before .before .before .before .before .before .before .before .before .before .before .start .kept .1 .0 ∙ c .before .before .before .before .before .before .before .before .before .before .before .before .before .before .before .before .before .before .before .before .before .before .before .must .kept .1 .1 .1 .0
+  pub bump-any-requires : Here lts.Need-bump-any-requires
+  bump-any-requires c κs = c .before .before .before .before .start .ensures .fit
 
-pub returns : (t : ℕ) → lts.Need-returns (calls t) (ret-at t) ret.Post
-unfolding A.returnExpr
-returns t c = simp (assoc, pick-bind, done-bind) (then _ _ _ _ (c .before .before .before .before .before .before .before .before .before .before .before .before .before .before .before .before .before .before .before .before .before .before .before .must .ensures) (step _ _ _ _ (c .before .before .before .before .before .before .before .before .before .before .before .before .before .before .before .before .before .before .before .start .ensures) (then _ _ _ _ (c .before .before .before .before .before .before .before .before .before .before .before .before .before .before .bump-any .ensures) (peek _ _ _ _ _ (c .before .before .before .before .before .before .before .before .before .before .before .at-ts .ensures) (rw (c .before .before .before .before .before .before .before .before .before .if1 .taken) (then _ _ _ _ (c .before .before .before .before .before .before .before .expr-bp .ensures) (any _ _ _ (c .before .before .complete .ensures))))))))
+  pub at-ts-requires : Here lts.Need-at-ts-requires
+  at-ts-requires c κs = c .before .before .bump-any .ensures .fit
 
-pub complete-requires-2 : (t : ℕ) → lts.Need-complete-requires-2 (calls t) (ret-at t) ret.Post
-complete-requires-2 t c κs = c .before .before .before .at-ts .ensures .fit
+  pub expr-bp-requires : Here lts.Need-expr-bp-requires
+  expr-bp-requires c κs =
+      let at-ts = c .before .before .before in
+      let bump-any = at-ts .before .before .before in
+      (omega (arith, entry-bump-any bump-any .pre .0), (at-ts .at-ts .ensures .fit, search needs))
 
-pub same-length-2 : (t : ℕ) → lts.Need-same-length-2 (calls t) (ret-at t) ret.Post
-same-length-2 t c = c .before .before .complete2 .kept .1 .0 ∙ c .before .before .before .before .before .before .before .before .before .bump-any .kept .1 .1 .1 .0 ∙ c .before .before .before .before .before .before .before .before .before .before .before .before .before .before .start .kept .1 .0 ∙ c .before .before .before .before .before .before .before .before .before .before .before .before .before .before .before .before .before .before .must .kept .1 .1 .1 .0
+  pub complete-requires : Here lts.Need-complete-requires
+  complete-requires c κs = c .before .before .before .before .expr-bp .ensures .fit
 
-pub returns-2 : (t : ℕ) → lts.Need-returns-2 (calls t) (ret-at t) ret.Post
-unfolding A.returnExpr
-returns-2 t c = simp (assoc, pick-bind, done-bind) (then _ _ _ _ (c .before .before .before .before .before .before .before .before .before .before .before .before .before .before .before .before .before .before .must .ensures) (step _ _ _ _ (c .before .before .before .before .before .before .before .before .before .before .before .before .before .before .start .ensures) (then _ _ _ _ (c .before .before .before .before .before .before .before .before .before .bump-any .ensures) (peek _ _ _ _ _ (c .before .before .before .before .before .before .at-ts .ensures) (rw (c .before .before .before .before .if1 .left) (any _ _ _ (c .before .before .complete2 .ensures)))))))
+  pub same-length : Here lts.Need-same-length
+  same-length c =
+      let complete = c .before .before in
+      let expr-bp = complete .before .before .before .before .before in
+      let bump-any = expr-bp .before .before .before .before .before .before .before in
+      complete .complete .kept .1 .0 ∙ expr-bp .expr-bp .kept .1 .1 .0 ∙ kept-bump-any bump-any
+
+  pub returns : Here lts.Need-returns
+  unfolding A.returnExpr
+  returns c =
+      let complete = c .before .before in
+      let expr-bp = complete .before .before .before .before .before in
+      let if1 = expr-bp .before .before in
+      let at-ts = if1 .before .before in
+      let bump-any = at-ts .before .before .before in
+      let start = bump-any .before .before .before .before .before in
+      let must = start .before .before .before .before in
+      simp (assoc, pick-bind, done-bind)
+      (then _ _ _ _ (must .must .ensures)
+      (step _ _ _ _ (start .start .ensures)
+      (then _ _ _ _ (bump-any .bump-any .ensures)
+      (peek _ _ _ _ _ (at-ts .at-ts .ensures)
+      (rw (if1 .if1 .taken)
+      (then _ _ _ _ (expr-bp .expr-bp .ensures)
+      (any _ _ _ (complete .complete .ensures))))))))
+
+  pub complete-requires-2 : Here lts.Need-complete-requires-2
+  complete-requires-2 c κs = c .before .before .before .at-ts .ensures .fit
+
+  pub same-length-2 : Here lts.Need-same-length-2
+  same-length-2 c =
+      let complete2 = c .before .before in
+      let bump-any = complete2 .before .before .before .before .before .before .before in
+      complete2 .complete2 .kept .1 .0 ∙ kept-bump-any bump-any
+
+  pub returns-2 : Here lts.Need-returns-2
+  unfolding A.returnExpr
+  returns-2 c =
+      let complete2 = c .before .before in
+      let if1 = complete2 .before .before in
+      let at-ts = if1 .before .before in
+      let bump-any = at-ts .before .before .before in
+      let start = bump-any .before .before .before .before .before in
+      let must = start .before .before .before .before in
+      simp (assoc, pick-bind, done-bind)
+      (then _ _ _ _ (must .must .ensures)
+      (step _ _ _ _ (start .start .ensures)
+      (then _ _ _ _ (bump-any .bump-any .ensures)
+      (peek _ _ _ _ _ (at-ts .at-ts .ensures)
+      (rw (if1 .if1 .left)
+      (any _ _ _ (complete2 .complete2 .ensures)))))))

@@ -1,9 +1,11 @@
+-- Written by tools/proofs from the code, the definitions and hints.py: docs/PRODUCTIONS.md says how to change it.
 -- `sig`.
 use borrow.Author.Needs.{needs}
-use Rattle.runtime.proofs.Laws.{then, step, peek, see, ask, ends}
+use Rattle.runtime.proofs.Laws.{then, step, peek, see, ends}
 use Rattle.grammar.proofs.Laws.{assoc, pick-bind, done-bind}
 use native.Mathlib.Omega.{arith}
-use mathlib.Core.Path.{sym, _∙_}
+use lib.ListN.{length}
+use mathlib.Core.Path.{_≡_, sym, _∙_}
 use Prim.Native.Nat.{ℕ}
 use Rattle.grammar.specs.Grammar as G
 use Rattle.grammar.specs.Items as I
@@ -18,75 +20,206 @@ use Rattle.runtime.proofs.parser.Parser.start.Reads as start-reads
 use Rattle.cycle.proofs.body.Reads as body
 use Rattle.cycle.proofs.sig.Reads as sig
 use Rattle.cycle.proofs.type_spec.Reads as type-spec
-use Rattle.cycle.proofs.+args+arr+atom+blk+body+bx+call+cast+cplx+ctl+dcal+decl+def+els+expr_bp+fors+gate+gdef+gph+ids+idx+if_stmt+lhs+list+meas+mods+opt+par+post+qarg+rest+ret+scal+set+sig+stmt+sts+subs+sw+tup+type_spec+width.Lts-sig as lts
-use Rattle.cycle.proofs.+args+arr+atom+blk+body+bx+call+cast+cplx+ctl+dcal+decl+def+els+expr_bp+fors+gate+gdef+gph+ids+idx+if_stmt+lhs+list+meas+mods+opt+par+post+qarg+rest+ret+scal+set+sig+stmt+sts+subs+sw+tup+type_spec+width.Proof.Frame.{body-below, sig-at, type-spec-below}
+use Rattle.cycle.proofs.+args+arr+atom+blk+body+bx+call+cast+cplx+ctl+dcal+decl+def+els+expr_bp+fors+gate+gdef+gph+ids+idx+if_stmt+lhs+list+meas+mods+opt+par+post+qarg+rest+ret+scal+set+sig+stmt+sts+subs+sw+tup+type_spec+width as cycle
+use cycle.Lts-sig as lts
+use cycle.Proof.Frame.{body-below, sig-at, type-spec-below}
+use Rattle.cycle.proofs.sig.Kinds as kinds
+use borrow.Fn.Kinds.{In, Out}
 
 -- what the callees ask and give
 abbrev pub calls : ℕ → lts.Claims
-calls t = (at-reads.Asked, at-reads.Learnt, start-reads.Asked, start-reads.Learnt, bump-reads.Asked, bump-reads.Learnt, scalar-return-reads.Asked, scalar-return-reads.Learnt, current-reads.Asked, current-reads.Learnt, is-type-reads.Asked, is-type-reads.Learnt, type-spec-below t, type-spec.Post, complete-reads.Asked, complete-reads.Learnt, body-below t, body.Post, abandon-reads.Asked, abandon-reads.Learnt)
+calls t = (
+  at-reads.Asked,
+  at-reads.Learnt,
+  start-reads.Asked,
+  start-reads.Learnt,
+  bump-reads.Asked,
+  bump-reads.Learnt,
+  scalar-return-reads.Asked,
+  scalar-return-reads.Learnt,
+  current-reads.Asked,
+  current-reads.Learnt,
+  is-type-reads.Asked,
+  is-type-reads.Learnt,
+  type-spec-below t,
+  type-spec.Post,
+  complete-reads.Asked,
+  complete-reads.Learnt,
+  body-below t,
+  body.Post,
+  abandon-reads.Asked,
+  abandon-reads.Learnt,
+)
 
-pub at-requires : (t : ℕ) → lts.Need-at-requires (calls t) (sig-at t) sig.Post
-at-requires t c κs = c .before .before .before .pre .1
+module _ (t : ℕ) where
+  abbrev Here : (lts.Claims → In 3 kinds.ps → Out 3 kinds.ps kinds.r → Type 0) → Type 0
+  Here X = X (calls t) (sig-at t) sig.Post
 
-pub start-requires : (t : ℕ) → lts.Need-start-requires (calls t) (sig-at t) sig.Post
-start-requires t c κs = c .before .before .before .before .before .before .pre .1
+  abbrev entry-start : Here lts.After-start → Here lts.Start
+  entry-start c = c .before .before .before .before .before .before .before
 
-pub bump-requires : (t : ℕ) → lts.Need-bump-requires (calls t) (sig-at t) sig.Post
-bump-requires t c κs = c .before .before .before .before .start .ensures .fit
+  abbrev entry-scalar-return : Here lts.After-scalar-return → Here lts.Start
+  entry-scalar-return c = entry-start (c .before .before .before .before .before .before .before .before .before)
 
-pub scalar-return-requires : (t : ℕ) → lts.Need-scalar-return-requires (calls t) (sig-at t) sig.Post
-scalar-return-requires t c κs = c .before .before .before .bump .ensures .fit
+  kept-scalar-return : (c : Here lts.After-scalar-return) → length (c .scalar-return .last .1 .1 .0) ≡ length (entry-scalar-return
+      c .args .room .now)
+  kept-scalar-return c =
+      let bump = c .before .before .before .before in
+      let start = bump .before .before .before .before .before in
+      c .scalar-return .kept .1 .1 .0 ∙ bump .bump .kept .1 .1 .1 .0 ∙ start .start .kept .1 .0
 
-pub current-requires : (t : ℕ) → lts.Need-current-requires (calls t) (sig-at t) sig.Post
-current-requires t c κs = c .before .before .scalar-return .ensures .fit
+  abbrev entry-is-type : Here lts.After-is-type → Here lts.Start
+  entry-is-type c = entry-scalar-return (c .before .before .before .before .before)
 
-pub is-type-requires : (t : ℕ) → lts.Need-is-type-requires (calls t) (sig-at t) sig.Post
-is-type-requires t c κs = search needs
+  abbrev entry-type-spec-arg : Here lts.After-type-spec-arg → Here lts.Start
+  entry-type-spec-arg c = entry-is-type (c .before .before)
 
-pub type-spec-requires : (t : ℕ) → lts.Need-type-spec-requires (calls t) (sig-at t) sig.Post
-type-spec-requires t c κs = (omega (arith, c .before .before .before .before .before .before .before .before .before .before .before .before .before .before .before .before .before .before .before .before .before .before .before .pre .0), c .before .before .before .before .current .ensures .fit)
+  pub at-requires : Here lts.Need-at-requires
+  at-requires c κs = c .before .before .before .pre .1
 
-pub complete-requires : (t : ℕ) → lts.Need-complete-requires (calls t) (sig-at t) sig.Post
-complete-requires t c κs = c .before .before .before .type-spec .ensures .fit
+  pub start-requires : Here lts.Need-start-requires
+  start-requires c κs = c .before .before .before .before .before .before .pre .1
 
-pub body-requires : (t : ℕ) → lts.Need-body-requires (calls t) (sig-at t) sig.Post
-body-requires t c κs = (omega (arith, c .before .before .before .before .before .before .before .before .before .before .before .before .before .before .before .before .before .before .before .before .before .before .before .before .before .before .before .before .before .before .before .before .pre .0), c .before .before .before .before .complete .ensures .fit)
+  pub bump-requires : Here lts.Need-bump-requires
+  bump-requires c κs = c .before .before .before .before .start .ensures .fit
 
-pub complete-requires-2 : (t : ℕ) → lts.Need-complete-requires-2 (calls t) (sig-at t) sig.Post
-complete-requires-2 t c κs = c .before .before .before .body .ensures .fit
+  pub scalar-return-requires : Here lts.Need-scalar-return-requires
+  scalar-return-requires c κs = c .before .before .before .bump .ensures .fit
 
-pub same-length : (t : ℕ) → lts.Need-same-length (calls t) (sig-at t) sig.Post
-same-length t c = c .before .before .before .complete2 .kept .1 .0 ∙ c .before .before .before .before .before .before .before .body .kept .1 .1 .0 ∙ c .before .before .before .before .before .before .before .before .before .before .before .before .complete .kept .1 .0 ∙ c .before .before .before .before .before .before .before .before .before .before .before .before .before .before .before .before .type-spec .kept .1 .1 .0 ∙ c .before .before .before .before .before .before .before .before .before .before .before .before .before .before .before .before .before .before .before .before .before .before .before .before .scalar-return .kept .1 .1 .0 ∙ c .before .before .before .before .before .before .before .before .before .before .before .before .before .before .before .before .before .before .before .before .before .before .before .before .before .before .before .before .bump .kept .1 .1 .1 .0 ∙ c .before .before .before .before .before .before .before .before .before .before .before .before .before .before .before .before .before .before .before .before .before .before .before .before .before .before .before .before .before .before .before .before .before .start .kept .1 .0
+  pub current-requires : Here lts.Need-current-requires
+  current-requires c κs = c .before .before .scalar-return .ensures .fit
 
-pub returns : (t : ℕ) → lts.Need-returns (calls t) (sig-at t) sig.Post
-unfolding I.signature G.optRetType
-returns t c = simp (assoc, pick-bind, done-bind) (see _ _ _ _ (c .before .before .before .before .before .before .before .before .before .before .before .before .before .before .before .before .before .before .before .before .before .before .before .before .before .before .before .before .before .before .before .before .before .before .before .before .at .ensures) (rw (c .before .before .before .before .before .before .before .before .before .before .before .before .before .before .before .before .before .before .before .before .before .before .before .before .before .before .before .before .before .before .before .before .before .before .before .if1 .taken) (step _ _ _ _ (c .before .before .before .before .before .before .before .before .before .before .before .before .before .before .before .before .before .before .before .before .before .before .before .before .before .before .before .before .before .before .before .before .before .start .ensures) (then _ _ _ _ (c .before .before .before .before .before .before .before .before .before .before .before .before .before .before .before .before .before .before .before .before .before .before .before .before .before .before .before .before .bump .ensures) (then _ _ _ _ (c .before .before .before .before .before .before .before .before .before .before .before .before .before .before .before .before .before .before .before .before .before .before .before .before .scalar-return .ensures) (peek _ _ _ _ _ (c .before .before .before .before .before .before .before .before .before .before .before .before .before .before .before .before .before .before .before .before .before .current .ensures) (rw (sym (c .before .before .before .before .before .before .before .before .before .before .before .before .before .before .before .before .before .before .before .is-type .ensures) ∙ c .before .before .before .before .before .before .before .before .before .before .before .before .before .before .before .before .before .before .if2 .taken) (then _ _ _ _ (c .before .before .before .before .before .before .before .before .before .before .before .before .before .before .before .before .type-spec .ensures) (step _ _ _ _ (c .before .before .before .before .before .before .before .before .before .before .before .before .complete .ensures) (then _ _ _ _ (c .before .before .before .before .before .before .before .body .ensures) (step _ _ _ _ (c .before .before .before .complete2 .ensures) (ends _ _ _ (c .before .before .before .complete2 .ensures .fit)))))))))))))
+  pub is-type-requires : Here lts.Need-is-type-requires
+  is-type-requires c κs = search needs
 
-pub abandon-requires : (t : ℕ) → lts.Need-abandon-requires (calls t) (sig-at t) sig.Post
-abandon-requires t c κs = c .before .before .before .before .current .ensures .fit
+  pub type-spec-requires : Here lts.Need-type-spec-requires
+  type-spec-requires c κs = (omega (arith, entry-type-spec-arg c .pre .0), c .before .before .before .before .current .ensures .fit)
 
-pub body-requires-2 : (t : ℕ) → lts.Need-body-requires-2 (calls t) (sig-at t) sig.Post
-body-requires-2 t c κs = (omega (arith, c .before .before .before .before .before .before .before .before .before .before .before .before .before .before .before .before .before .before .before .before .before .before .before .before .before .before .before .pre .0), c .before .before .before .abandon .ensures .fit)
+  pub complete-requires : Here lts.Need-complete-requires
+  complete-requires c κs = c .before .before .before .type-spec .ensures .fit
 
-pub complete-requires-3 : (t : ℕ) → lts.Need-complete-requires-3 (calls t) (sig-at t) sig.Post
-complete-requires-3 t c κs = c .before .before .before .body2 .ensures .fit
+  pub body-requires : Here lts.Need-body-requires
+  body-requires c κs =
+      let complete = c .before .before .before .before in
+      let type-spec-arg = complete .before .before .before .before .before in
+      (omega (arith, entry-type-spec-arg type-spec-arg .pre .0), complete .complete .ensures .fit)
 
-pub same-length-2 : (t : ℕ) → lts.Need-same-length-2 (calls t) (sig-at t) sig.Post
-same-length-2 t c = c .before .before .before .complete3 .kept .1 .0 ∙ c .before .before .before .before .before .before .before .body2 .kept .1 .1 .0 ∙ c .before .before .before .before .before .before .before .before .before .before .before .abandon .kept .1 .0 ∙ c .before .before .before .before .before .before .before .before .before .before .before .before .before .before .before .before .before .before .before .scalar-return .kept .1 .1 .0 ∙ c .before .before .before .before .before .before .before .before .before .before .before .before .before .before .before .before .before .before .before .before .before .before .before .bump .kept .1 .1 .1 .0 ∙ c .before .before .before .before .before .before .before .before .before .before .before .before .before .before .before .before .before .before .before .before .before .before .before .before .before .before .before .before .start .kept .1 .0
+  pub complete-requires-2 : Here lts.Need-complete-requires-2
+  complete-requires-2 c κs = c .before .before .before .body .ensures .fit
 
-pub returns-2 : (t : ℕ) → lts.Need-returns-2 (calls t) (sig-at t) sig.Post
-unfolding I.signature G.optRetType
-returns-2 t c = simp (assoc, pick-bind, done-bind) (see _ _ _ _ (c .before .before .before .before .before .before .before .before .before .before .before .before .before .before .before .before .before .before .before .before .before .before .before .before .before .before .before .before .before .before .before .at .ensures) (rw (c .before .before .before .before .before .before .before .before .before .before .before .before .before .before .before .before .before .before .before .before .before .before .before .before .before .before .before .before .before .before .if1 .taken) (step _ _ _ _ (c .before .before .before .before .before .before .before .before .before .before .before .before .before .before .before .before .before .before .before .before .before .before .before .before .before .before .before .before .start .ensures) (then _ _ _ _ (c .before .before .before .before .before .before .before .before .before .before .before .before .before .before .before .before .before .before .before .before .before .before .before .bump .ensures) (then _ _ _ _ (c .before .before .before .before .before .before .before .before .before .before .before .before .before .before .before .before .before .before .before .scalar-return .ensures) (peek _ _ _ _ _ (c .before .before .before .before .before .before .before .before .before .before .before .before .before .before .before .before .current .ensures) (rw (sym (c .before .before .before .before .before .before .before .before .before .before .before .before .before .before .is-type .ensures) ∙ c .before .before .before .before .before .before .before .before .before .before .before .before .before .if2 .left) (step _ _ _ _ (c .before .before .before .before .before .before .before .before .before .before .before .abandon .ensures) (then _ _ _ _ (c .before .before .before .before .before .before .before .body2 .ensures) (step _ _ _ _ (c .before .before .before .complete3 .ensures) (ends _ _ _ (c .before .before .before .complete3 .ensures .fit))))))))))))
+  pub same-length : Here lts.Need-same-length
+  same-length c =
+      let complete2 = c .before .before .before in
+      let body = complete2 .before .before .before .before in
+      let complete = body .before .before .before .before .before in
+      let type-spec = complete .before .before .before .before in
+      let scalar-return = type-spec .before .before .before .before .before .before .before .before in
+      complete2 .complete2 .kept .1 .0 ∙ body .body .kept .1 .1 .0 ∙ complete .complete .kept .1 .0 ∙ type-spec .type-spec .kept .1
+      .1 .0 ∙ kept-scalar-return scalar-return
 
-pub body-requires-3 : (t : ℕ) → lts.Need-body-requires-3 (calls t) (sig-at t) sig.Post
-body-requires-3 t c κs = (omega (arith, c .before .before .before .before .before .before .pre .0), c .before .before .before .before .before .before .pre .1)
+  pub returns : Here lts.Need-returns
+  unfolding I.signature G.optRetType
+  returns c =
+      let complete2 = c .before .before .before in
+      let body = complete2 .before .before .before .before in
+      let complete = body .before .before .before .before .before in
+      let type-spec = complete .before .before .before .before in
+      let if2 = type-spec .before .before in
+      let is-type = if2 .before in
+      let current = is-type .before .before in
+      let scalar-return = current .before .before .before in
+      let bump = scalar-return .before .before .before .before in
+      let start = bump .before .before .before .before .before in
+      let if1 = start .before .before in
+      let at = if1 .before in
+      simp (assoc, pick-bind, done-bind)
+      (see _ _ _ _ (at .at .ensures)
+      (rw (if1 .if1 .taken)
+      (step _ _ _ _ (start .start .ensures)
+      (then _ _ _ _ (bump .bump .ensures)
+      (then _ _ _ _ (scalar-return .scalar-return .ensures)
+      (peek _ _ _ _ _ (current .current .ensures)
+      (rw (sym (is-type .is-type .ensures) ∙ if2 .if2 .taken)
+      (then _ _ _ _ (type-spec .type-spec .ensures)
+      (step _ _ _ _ (complete .complete .ensures)
+      (then _ _ _ _ (body .body .ensures)
+      (step _ _ _ _ (complete2 .complete2 .ensures)
+      (ends _ _ _ (complete2 .complete2 .ensures .fit)))))))))))))
 
-pub complete-requires-4 : (t : ℕ) → lts.Need-complete-requires-4 (calls t) (sig-at t) sig.Post
-complete-requires-4 t c κs = c .before .before .before .body3 .ensures .fit
+  pub abandon-requires : Here lts.Need-abandon-requires
+  abandon-requires c κs = c .before .before .before .before .current .ensures .fit
 
-pub same-length-3 : (t : ℕ) → lts.Need-same-length-3 (calls t) (sig-at t) sig.Post
-same-length-3 t c = c .before .before .before .complete4 .kept .1 .0 ∙ c .before .before .before .before .before .before .before .body3 .kept .1 .1 .0
+  pub body-requires-2 : Here lts.Need-body-requires-2
+  body-requires-2 c κs =
+      let abandon = c .before .before .before in
+      let is-type = abandon .before .before .before in
+      (omega (arith, entry-is-type is-type .pre .0), abandon .abandon .ensures .fit)
 
-pub returns-3 : (t : ℕ) → lts.Need-returns-3 (calls t) (sig-at t) sig.Post
-unfolding I.signature G.optRetType
-returns-3 t c = simp (assoc, pick-bind, done-bind) (see _ _ _ _ (c .before .before .before .before .before .before .before .before .before .before .at .ensures) (rw (c .before .before .before .before .before .before .before .before .before .if1 .left) (then _ _ _ _ (c .before .before .before .before .before .before .before .body3 .ensures) (step _ _ _ _ (c .before .before .before .complete4 .ensures) (ends _ _ _ (c .before .before .before .complete4 .ensures .fit))))))
+  pub complete-requires-3 : Here lts.Need-complete-requires-3
+  complete-requires-3 c κs = c .before .before .before .body2 .ensures .fit
+
+  pub same-length-2 : Here lts.Need-same-length-2
+  same-length-2 c =
+      let complete3 = c .before .before .before in
+      let body2 = complete3 .before .before .before .before in
+      let abandon = body2 .before .before .before .before in
+      let scalar-return = abandon .before .before .before .before .before .before .before .before in
+      complete3 .complete3 .kept .1 .0 ∙ body2 .body2 .kept .1 .1 .0 ∙ abandon .abandon .kept .1 .0 ∙ kept-scalar-return
+      scalar-return
+
+  pub returns-2 : Here lts.Need-returns-2
+  unfolding I.signature G.optRetType
+  returns-2 c =
+      let complete3 = c .before .before .before in
+      let body2 = complete3 .before .before .before .before in
+      let abandon = body2 .before .before .before .before in
+      let if2 = abandon .before .before in
+      let is-type = if2 .before in
+      let current = is-type .before .before in
+      let scalar-return = current .before .before .before in
+      let bump = scalar-return .before .before .before .before in
+      let start = bump .before .before .before .before .before in
+      let if1 = start .before .before in
+      let at = if1 .before in
+      simp (assoc, pick-bind, done-bind)
+      (see _ _ _ _ (at .at .ensures)
+      (rw (if1 .if1 .taken)
+      (step _ _ _ _ (start .start .ensures)
+      (then _ _ _ _ (bump .bump .ensures)
+      (then _ _ _ _ (scalar-return .scalar-return .ensures)
+      (peek _ _ _ _ _ (current .current .ensures)
+      (rw (sym (is-type .is-type .ensures) ∙ if2 .if2 .left)
+      (step _ _ _ _ (abandon .abandon .ensures)
+      (then _ _ _ _ (body2 .body2 .ensures)
+      (step _ _ _ _ (complete3 .complete3 .ensures)
+      (ends _ _ _ (complete3 .complete3 .ensures .fit))))))))))))
+
+  pub body-requires-3 : Here lts.Need-body-requires-3
+  body-requires-3 c κs = (
+    omega (arith, c .before .before .before .before .before .before .pre .0),
+    c .before .before .before
+        .before .before .before .pre .1,
+  )
+
+  pub complete-requires-4 : Here lts.Need-complete-requires-4
+  complete-requires-4 c κs = c .before .before .before .body3 .ensures .fit
+
+  pub same-length-3 : Here lts.Need-same-length-3
+  same-length-3 c =
+      let complete4 = c .before .before .before in
+      let body3 = complete4 .before .before .before .before in
+      complete4 .complete4 .kept .1 .0 ∙ body3 .body3 .kept .1 .1 .0
+
+  pub returns-3 : Here lts.Need-returns-3
+  unfolding I.signature G.optRetType
+  returns-3 c =
+      let complete4 = c .before .before .before in
+      let body3 = complete4 .before .before .before .before in
+      let if1 = body3 .before .before in
+      let at = if1 .before in
+      simp (assoc, pick-bind, done-bind)
+      (see _ _ _ _ (at .at .ensures)
+      (rw (if1 .if1 .left)
+      (then _ _ _ _ (body3 .body3 .ensures)
+      (step _ _ _ _ (complete4 .complete4 .ensures)
+      (ends _ _ _ (complete4 .complete4 .ensures .fit))))))

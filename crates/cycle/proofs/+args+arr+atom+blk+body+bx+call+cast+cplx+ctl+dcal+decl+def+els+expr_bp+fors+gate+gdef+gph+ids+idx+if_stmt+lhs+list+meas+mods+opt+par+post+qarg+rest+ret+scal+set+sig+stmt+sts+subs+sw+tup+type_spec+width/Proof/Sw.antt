@@ -1,6 +1,7 @@
+-- Written by tools/proofs from the code, the definitions and hints.py: docs/PRODUCTIONS.md says how to change it.
 -- `sw`.
 use borrow.Author.Needs.{needs}
-use Rattle.runtime.proofs.Laws.{then, step, see, ask, ends, Ran, ran-none, ran-more, ran-done, spent-does, spent-steps, left-sees, spends-bump}
+use Rattle.runtime.proofs.Laws.{then, step, see, ends, Ran, ran-none, ran-more, ran-done, spent-does, spent-steps, left-sees, spends-bump}
 use Rattle.grammar.proofs.Laws.{assoc, pick-bind, done-bind}
 use native.Mathlib.Nat.{lt-of-le-of-lt}
 use native.Mathlib.Omega.{arith}
@@ -11,6 +12,8 @@ use Rattle.runtime.specs.State.{view}
 use Rattle.grammar.specs.Operators.{tableOf}
 use Rattle.grammar.specs.Entry.{counted}
 use Prim.Native.Nat.{ℕ}
+use Rattle.cycle.proofs.Depth.{falls-after}
+use Rattle.kinds.specs.Kinds.{CASE-KW}
 use Rattle.runtime.specs.Acts as acts
 use Rattle.grammar.specs.Items as I
 use Rattle.grammar.proofs.fail_unless_at.Reads as fail-unless-at-reads
@@ -25,98 +28,286 @@ use Rattle.cycle.proofs.body.Reads as body
 use Rattle.cycle.proofs.els.Reads as els
 use Rattle.cycle.proofs.expr_bp.Reads as expr-bp
 use Rattle.cycle.proofs.sw.Reads as sw
-use Rattle.cycle.proofs.+args+arr+atom+blk+body+bx+call+cast+cplx+ctl+dcal+decl+def+els+expr_bp+fors+gate+gdef+gph+ids+idx+if_stmt+lhs+list+meas+mods+opt+par+post+qarg+rest+ret+scal+set+sig+stmt+sts+subs+sw+tup+type_spec+width.Lts-sw as lts
-use Rattle.cycle.proofs.+args+arr+atom+blk+body+bx+call+cast+cplx+ctl+dcal+decl+def+els+expr_bp+fors+gate+gdef+gph+ids+idx+if_stmt+lhs+list+meas+mods+opt+par+post+qarg+rest+ret+scal+set+sig+stmt+sts+subs+sw+tup+type_spec+width.Proof.Frame.{body-below, els-below, expr-bp-below, sw-at}
-use Rattle.cycle.proofs.Depth.{falls-after}
-use Rattle.kinds.specs.Kinds.{CASE-KW}
+use Rattle.cycle.proofs.+args+arr+atom+blk+body+bx+call+cast+cplx+ctl+dcal+decl+def+els+expr_bp+fors+gate+gdef+gph+ids+idx+if_stmt+lhs+list+meas+mods+opt+par+post+qarg+rest+ret+scal+set+sig+stmt+sts+subs+sw+tup+type_spec+width as cycle
+use cycle.Lts-sw as lts
+use cycle.Proof.Frame.{body-below, els-below, expr-bp-below, sw-at}
+use Rattle.cycle.proofs.sw.Kinds as kinds
+use borrow.Fn.Kinds.{In, Out}
 
 -- what the callees ask and give
 abbrev pub calls : ℕ → lts.Claims
-calls t = (must-reads.Asked, must-reads.Learnt, bump-reads.Asked, bump-reads.Learnt, expect-reads.Asked, expect-reads.Learnt, expr-bp-below t, expr-bp.Post, fail-unless-at-reads.Asked, fail-unless-at-reads.Learnt, at-reads.Asked, at-reads.Learnt, start-reads.Asked, start-reads.Learnt, els-below t, els.Post, body-below t, body.Post, complete-reads.Asked, complete-reads.Learnt, eat-reads.Asked, eat-reads.Learnt)
+calls t = (
+  must-reads.Asked,
+  must-reads.Learnt,
+  bump-reads.Asked,
+  bump-reads.Learnt,
+  expect-reads.Asked,
+  expect-reads.Learnt,
+  expr-bp-below t,
+  expr-bp.Post,
+  fail-unless-at-reads.Asked,
+  fail-unless-at-reads.Learnt,
+  at-reads.Asked,
+  at-reads.Learnt,
+  start-reads.Asked,
+  start-reads.Learnt,
+  els-below t,
+  els.Post,
+  body-below t,
+  body.Post,
+  complete-reads.Asked,
+  complete-reads.Learnt,
+  eat-reads.Asked,
+  eat-reads.Learnt,
+)
 
 abbrev pub Inv-loop : lts.InvT-loop
-Inv-loop kinds joints room₀ mode left m q₀ room q = (length room ≡ length room₀) × Ran (env kinds joints) (I.switchCaseStmtRound (counted (tableOf mode) left)) tt (view q₀ room₀) tt (view q room)
+Inv-loop kinds joints room₀ mode left m q₀ room q = (length room ≡ length room₀) × Ran (env kinds joints) (I.switchCaseStmtRound
+    (counted (tableOf mode) left)) tt (view q₀ room₀) tt (view q room)
 
 abbrev pub μ-loop : lts.MeasureT-loop
 μ-loop kinds joints room₀ mode left m q₀ room q = acts.left q
 
-pub must-requires : (t : ℕ) → lts.Need-must-requires (calls t) (sw-at t) sw.Post Inv-loop μ-loop
-must-requires t c κs = c .before .before .before .before .pre .1
+module _ (t : ℕ) where
+  abbrev Here : (lts.Claims → In 3 kinds.ps → Out 3 kinds.ps kinds.r → lts.InvT-loop → lts.MeasureT-loop → Type 0) → Type 0
+  Here X = X (calls t) (sw-at t) sw.Post Inv-loop μ-loop
 
-pub bump-requires : (t : ℕ) → lts.Need-bump-requires (calls t) (sw-at t) sw.Post Inv-loop μ-loop
-bump-requires t c κs = c .before .before .before .must .ensures .fit
+  abbrev entry-bump : Here lts.After-bump → Here lts.Start
+  entry-bump c = c .before .before .before .before .before .before .before .before .before
 
-pub expect-requires : (t : ℕ) → lts.Need-expect-requires (calls t) (sw-at t) sw.Post Inv-loop μ-loop
-expect-requires t c κs = c .before .before .before .bump .ensures .fit
+  abbrev entry-expr-bp-arg : Here lts.After-expr-bp-arg → Here lts.Start
+  entry-expr-bp-arg c = entry-bump (c .before .before .before .before .before .before .before .before)
 
-pub expr-bp-requires : (t : ℕ) → lts.Need-expr-bp-requires (calls t) (sw-at t) sw.Post Inv-loop μ-loop
-expr-bp-requires t c κs = (omega (arith, c .before .before .before .before .before .before .before .before .before .before .before .before .before .before .before .before .before .pre .0), (c .before .before .before .before .expect .ensures .fit, search needs))
+  abbrev entry-expr-bp : Here lts.After-expr-bp → Here lts.Start
+  entry-expr-bp c = entry-expr-bp-arg (c .before)
 
-pub expect-requires-2 : (t : ℕ) → lts.Need-expect-requires-2 (calls t) (sw-at t) sw.Post Inv-loop μ-loop
-expect-requires-2 t c κs = c .before .before .before .before .expr-bp .ensures .fit
+  abbrev entry-expect3 : Here lts.After-expect3 → Here lts.Start
+  entry-expect3 c = entry-expr-bp (c .before .before .before .before .before .before .before .before .before .before)
 
-pub expect-requires-3 : (t : ℕ) → lts.Need-expect-requires-3 (calls t) (sw-at t) sw.Post Inv-loop μ-loop
-expect-requires-3 t c κs = c .before .before .before .before .expect2 .ensures .fit
+  abbrev entry-at : Here lts.After-at → Here lts.Start
+  entry-at c = entry-expect3 (c .before .before .before .before .before .before .before .before .before)
 
-pub fail-unless-at-requires : (t : ℕ) → lts.Need-fail-unless-at-requires (calls t) (sw-at t) sw.Post Inv-loop μ-loop
-fail-unless-at-requires t c κs = c .before .before .before .before .expect3 .ensures .fit
+  abbrev entry-if1-taken : Here lts.Then1 → Here lts.Start
+  entry-if1-taken c = entry-at (c .before)
 
-pub loop-holds : (t : ℕ) → lts.Need-loop-holds (calls t) (sw-at t) sw.Post Inv-loop μ-loop
-loop-holds t c = (refl, ran-none _ _ _ _ (c .before .before .fail-unless-at .ensures .fit))
+  abbrev entry-eat : Here lts.After-eat → Here lts.Start
+  entry-eat c = entry-at (c .before .before .before)
 
-pub at-requires : (t : ℕ) → lts.Need-at-requires (calls t) (sw-at t) sw.Post Inv-loop μ-loop
-at-requires t c κs = c .loop .inv .1 .3
+  kept-eat : (c : Here lts.After-eat) → length (c .eat .last .1 .1 .1 .0) ≡ length (entry-eat c .args .room .now)
+  kept-eat c =
+      let loop = c .before .before .before .before in
+      let fail-unless-at = loop .before .before .before in
+      let expect3 = fail-unless-at .before .before .before .before .before in
+      let expect2 = expect3 .before .before .before .before .before in
+      let expr-bp = expect2 .before .before .before .before .before in
+      let expect = expr-bp .before .before .before .before .before in
+      let bump = expect .before .before .before .before in
+      let must = bump .before .before .before .before in
+      c .eat .kept .1 .1 .1 .0 ∙ loop .loop .inv .0 ∙ fail-unless-at .fail-unless-at .kept .1 .1 .0 ∙ expect3 .expect3 .kept .1 .1
+      .1 .0 ∙ expect2 .expect2 .kept .1 .1 .1 .0 ∙ expr-bp .expr-bp .kept .1 .1 .0 ∙ expect .expect .kept .1 .1 .1 .0 ∙ bump
+      .bump .kept .1 .1 .1 .0 ∙ must .must .kept .1 .1 .1 .0
 
-pub start-requires : (t : ℕ) → lts.Need-start-requires (calls t) (sw-at t) sw.Post Inv-loop μ-loop
-start-requires t c κs = c .before .before .before .loop .inv .1 .3
+  abbrev entry-els-arg : Here lts.After-els-arg → Here lts.Start
+  entry-els-arg c = entry-if1-taken (c .before .before .before .before .before .before .before .before .before .before)
 
-pub bump-requires-2 : (t : ℕ) → lts.Need-bump-requires-2 (calls t) (sw-at t) sw.Post Inv-loop μ-loop
-bump-requires-2 t c κs = c .before .before .before .before .start .ensures .fit
+  pub must-requires : Here lts.Need-must-requires
+  must-requires c κs = c .before .before .before .before .pre .1
 
-pub els-requires : (t : ℕ) → lts.Need-els-requires (calls t) (sw-at t) sw.Post Inv-loop μ-loop
-els-requires t c κs = (omega (arith, c .before .before .before .before .before .before .before .before .before .before .before .before .before .before .before .before .before .before .before .before .before .before .before .before .before .before .before .before .before .before .before .before .before .before .before .before .before .before .before .before .before .before .before .before .before .before .before .before .pre .0), c .before .before .before .bump2 .ensures .fit)
+  pub bump-requires : Here lts.Need-bump-requires
+  bump-requires c κs = c .before .before .before .must .ensures .fit
 
-pub body-requires : (t : ℕ) → lts.Need-body-requires (calls t) (sw-at t) sw.Post Inv-loop μ-loop
-body-requires t c κs = (omega (arith, c .before .before .before .before .before .before .before .before .before .before .before .before .before .before .before .before .before .before .before .before .before .before .before .before .before .before .before .before .before .before .before .before .before .before .before .before .before .before .before .before .before .before .before .before .before .before .before .before .before .before .before .before .pre .0), c .before .before .before .els .ensures .fit)
+  pub expect-requires : Here lts.Need-expect-requires
+  expect-requires c κs = c .before .before .before .bump .ensures .fit
 
-pub complete-requires : (t : ℕ) → lts.Need-complete-requires (calls t) (sw-at t) sw.Post Inv-loop μ-loop
-complete-requires t c κs = c .before .before .before .body .ensures .fit
+  pub expr-bp-requires : Here lts.Need-expr-bp-requires
+  expr-bp-requires c κs = (
+    omega (arith, entry-expr-bp-arg c .pre .0),
+    (
+      c .before .before .before .before .expect .ensures .fit,
+      search needs,
+    ),
+  )
 
-pub loop-less : (t : ℕ) → lts.Need-loop-less (calls t) (sw-at t) sw.Post Inv-loop μ-loop
-loop-less t c = lt-of-le-of-lt (spent-steps _ _ (c .before .before .before .complete .ensures)) (lt-of-le-of-lt (spent-does _ _ _ (c .before .before .before .before .before .before .before .body .ensures)) (lt-of-le-of-lt (spent-does _ _ _ (c .before .before .before .before .before .before .before .before .before .before .before .els .ensures)) (falls-after _ _ _ _ (spends-bump _) (left-sees _ _ CASE-KW (λ z. omega arith) (sym (c .before .before .before .before .before .before .before .before .before .before .before .before .before .before .before .before .before .before .before .before .before .before .before .at .ensures) ∙ c .before .before .before .before .before .before .before .before .before .before .before .before .before .before .before .before .before .before .before .before .before .before .if1 .taken)) (spent-steps _ _ (c .before .before .before .before .before .before .before .before .before .before .before .before .before .before .before .before .before .before .before .before .start .ensures)) (c .before .before .before .before .before .before .before .before .before .before .before .before .before .before .before .bump2 .ensures))))
+  pub expect-requires-2 : Here lts.Need-expect-requires-2
+  expect-requires-2 c κs = c .before .before .before .before .expr-bp .ensures .fit
 
-pub loop-again : (t : ℕ) → lts.Need-loop-again (calls t) (sw-at t) sw.Post Inv-loop μ-loop
-unfolding I.switchCaseStmt I.switchCaseStmtRound
-loop-again t c = (c .before .before .before .complete .kept .1 .0 ∙ c .before .before .before .before .before .before .before .body .kept .1 .1 .0 ∙ c .before .before .before .before .before .before .before .before .before .before .before .els .kept .1 .1 .0 ∙ c .before .before .before .before .before .before .before .before .before .before .before .before .before .before .before .bump2 .kept .1 .1 .1 .0 ∙ c .before .before .before .before .before .before .before .before .before .before .before .before .before .before .before .before .before .before .before .before .start .kept .1 .0 ∙ c .before .before .before .before .before .before .before .before .before .before .before .before .before .before .before .before .before .before .before .before .before .before .before .before .loop .inv .0, ran-more _ _ _ _ _ _ _ _ (c .before .before .before .before .before .before .before .before .before .before .before .before .before .before .before .before .before .before .before .before .before .before .before .before .loop .inv .1) (see _ _ _ _ (c .before .before .before .before .before .before .before .before .before .before .before .before .before .before .before .before .before .before .before .before .before .before .before .at .ensures) (rw (c .before .before .before .before .before .before .before .before .before .before .before .before .before .before .before .before .before .before .before .before .before .before .if1 .taken) (step _ _ _ _ (c .before .before .before .before .before .before .before .before .before .before .before .before .before .before .before .before .before .before .before .before .start .ensures) (then _ _ _ _ (c .before .before .before .before .before .before .before .before .before .before .before .before .before .before .before .bump2 .ensures) (then _ _ _ _ (c .before .before .before .before .before .before .before .before .before .before .before .els .ensures) (then _ _ _ _ (c .before .before .before .before .before .before .before .body .ensures) (step _ _ _ _ (c .before .before .before .complete .ensures) (ends _ _ _ (c .before .before .before .complete .ensures .fit))))))))) (lt-of-le-of-lt (spent-steps _ _ (c .before .before .before .complete .ensures)) (lt-of-le-of-lt (spent-does _ _ _ (c .before .before .before .before .before .before .before .body .ensures)) (lt-of-le-of-lt (spent-does _ _ _ (c .before .before .before .before .before .before .before .before .before .before .before .els .ensures)) (falls-after _ _ _ _ (spends-bump _) (left-sees _ _ CASE-KW (λ z. omega arith) (sym (c .before .before .before .before .before .before .before .before .before .before .before .before .before .before .before .before .before .before .before .before .before .before .before .at .ensures) ∙ c .before .before .before .before .before .before .before .before .before .before .before .before .before .before .before .before .before .before .before .before .before .before .if1 .taken)) (spent-steps _ _ (c .before .before .before .before .before .before .before .before .before .before .before .before .before .before .before .before .before .before .before .before .start .ensures)) (c .before .before .before .before .before .before .before .before .before .before .before .before .before .before .before .bump2 .ensures))))))
+  pub expect-requires-3 : Here lts.Need-expect-requires-3
+  expect-requires-3 c κs = c .before .before .before .before .expect2 .ensures .fit
 
-pub eat-requires : (t : ℕ) → lts.Need-eat-requires (calls t) (sw-at t) sw.Post Inv-loop μ-loop
-eat-requires t c κs = c .before .before .before .loop .inv .1 .3
+  pub fail-unless-at-requires : Here lts.Need-fail-unless-at-requires
+  fail-unless-at-requires c κs = c .before .before .before .before .expect3 .ensures .fit
 
-pub body-requires-2 : (t : ℕ) → lts.Need-body-requires-2 (calls t) (sw-at t) sw.Post Inv-loop μ-loop
-body-requires-2 t c κs = (omega (arith, c .before .before .before .before .before .before .before .before .before .before .before .before .before .before .before .before .before .before .before .before .before .before .before .before .before .before .before .before .before .before .before .before .before .before .before .before .before .before .before .before .before .before .before .before .before .pre .0), c .before .before .before .before .before .eat .ensures .fit)
+  pub loop-holds : Here lts.Need-loop-holds
+  loop-holds c = (refl, ran-none _ _ _ _ (c .before .before .fail-unless-at .ensures .fit))
 
-pub expect-requires-4 : (t : ℕ) → lts.Need-expect-requires-4 (calls t) (sw-at t) sw.Post Inv-loop μ-loop
-expect-requires-4 t c κs = c .before .before .before .body2 .ensures .fit
+  pub at-requires : Here lts.Need-at-requires
+  at-requires c κs = c .loop .inv .1 .3
 
-pub complete-requires-2 : (t : ℕ) → lts.Need-complete-requires-2 (calls t) (sw-at t) sw.Post Inv-loop μ-loop
-complete-requires-2 t c κs = c .before .before .before .before .expect4 .ensures .fit
+  pub start-requires : Here lts.Need-start-requires
+  start-requires c κs = c .before .before .before .loop .inv .1 .3
 
-pub same-length : (t : ℕ) → lts.Need-same-length (calls t) (sw-at t) sw.Post Inv-loop μ-loop
-same-length t c = c .before .before .before .complete2 .kept .1 .0 ∙ c .before .before .before .before .before .before .before .before .expect4 .kept .1 .1 .1 .0 ∙ c .before .before .before .before .before .before .before .before .before .before .before .before .body2 .kept .1 .1 .0 ∙ c .before .before .before .before .before .before .before .before .before .before .before .before .before .before .before .before .before .before .eat .kept .1 .1 .1 .0 ∙ c .before .before .before .before .before .before .before .before .before .before .before .before .before .before .before .before .before .before .before .before .before .before .loop .inv .0 ∙ c .before .before .before .before .before .before .before .before .before .before .before .before .before .before .before .before .before .before .before .before .before .before .before .before .before .fail-unless-at .kept .1 .1 .0 ∙ c .before .before .before .before .before .before .before .before .before .before .before .before .before .before .before .before .before .before .before .before .before .before .before .before .before .before .before .before .before .before .expect3 .kept .1 .1 .1 .0 ∙ c .before .before .before .before .before .before .before .before .before .before .before .before .before .before .before .before .before .before .before .before .before .before .before .before .before .before .before .before .before .before .before .before .before .before .before .expect2 .kept .1 .1 .1 .0 ∙ c .before .before .before .before .before .before .before .before .before .before .before .before .before .before .before .before .before .before .before .before .before .before .before .before .before .before .before .before .before .before .before .before .before .before .before .before .before .before .before .before .expr-bp .kept .1 .1 .0 ∙ c .before .before .before .before .before .before .before .before .before .before .before .before .before .before .before .before .before .before .before .before .before .before .before .before .before .before .before .before .before .before .before .before .before .before .before .before .before .before .before .before .before .before .before .before .before .expect .kept .1 .1 .1 .0 ∙ c .before .before .before .before .before .before .before .before .before .before .before .before .before .before .before .before .before .before .before .before .before .before .before .before .before .before .before .before .before .before .before .before .before .before .before .before .before .before .before .before .before .before .before .before .before .before .before .before .before .bump .kept .1 .1 .1 .0 ∙ c .before .before .before .before .before .before .before .before .before .before .before .before .before .before .before .before .before .before .before .before .before .before .before .before .before .before .before .before .before .before .before .before .before .before .before .before .before .before .before .before .before .before .before .before .before .before .before .before .before .before .before .before .before .must .kept .1 .1 .1 .0
+  pub bump-requires-2 : Here lts.Need-bump-requires-2
+  bump-requires-2 c κs = c .before .before .before .before .start .ensures .fit
 
-pub returns : (t : ℕ) → lts.Need-returns (calls t) (sw-at t) sw.Post Inv-loop μ-loop
-unfolding I.switchCaseStmt I.switchCaseStmtRound
-returns t c = simp (assoc, pick-bind, done-bind) (then _ _ _ _ (c .before .before .before .before .before .before .before .before .before .before .before .before .before .before .before .before .before .before .before .before .before .before .before .before .before .before .before .before .before .before .before .before .before .before .before .before .before .before .before .before .before .before .before .before .before .before .before .before .before .before .before .before .before .must .ensures) (then _ _ _ _ (c .before .before .before .before .before .before .before .before .before .before .before .before .before .before .before .before .before .before .before .before .before .before .before .before .before .before .before .before .before .before .before .before .before .before .before .before .before .before .before .before .before .before .before .before .before .before .before .before .before .bump .ensures) (then _ _ _ _ (c .before .before .before .before .before .before .before .before .before .before .before .before .before .before .before .before .before .before .before .before .before .before .before .before .before .before .before .before .before .before .before .before .before .before .before .before .before .before .before .before .before .before .before .before .before .expect .ensures) (then _ _ _ _ (c .before .before .before .before .before .before .before .before .before .before .before .before .before .before .before .before .before .before .before .before .before .before .before .before .before .before .before .before .before .before .before .before .before .before .before .before .before .before .before .before .expr-bp .ensures) (then _ _ _ _ (c .before .before .before .before .before .before .before .before .before .before .before .before .before .before .before .before .before .before .before .before .before .before .before .before .before .before .before .before .before .before .before .before .before .before .before .expect2 .ensures) (then _ _ _ _ (c .before .before .before .before .before .before .before .before .before .before .before .before .before .before .before .before .before .before .before .before .before .before .before .before .before .before .before .before .before .before .expect3 .ensures) (then _ _ _ _ (c .before .before .before .before .before .before .before .before .before .before .before .before .before .before .before .before .before .before .before .before .before .before .before .before .before .fail-unless-at .ensures) (then _ _ _ _ (ran-done _ _ _ _ _ _ _ _ (c .before .before .before .before .before .before .before .before .before .before .before .before .before .before .before .before .before .before .before .before .before .before .loop .inv .1) (see _ _ _ _ (c .before .before .before .before .before .before .before .before .before .before .before .before .before .before .before .before .before .before .before .before .before .at .ensures) (rw (c .before .before .before .before .before .before .before .before .before .before .before .before .before .before .before .before .before .before .before .before .if1 .left) (ends _ _ _ (c .before .before .before .before .before .before .before .before .before .before .before .before .before .before .before .before .before .before .before .before .before .before .loop .inv .1 .3))))) (then _ _ _ _ (c .before .before .before .before .before .before .before .before .before .before .before .before .before .before .before .before .before .before .eat .ensures) (rw (c .before .before .before .before .before .before .before .before .before .before .before .before .before .before .if2 .taken) (then _ _ _ _ (c .before .before .before .before .before .before .before .before .before .before .before .before .body2 .ensures) (then _ _ _ _ (c .before .before .before .before .before .before .before .before .expect4 .ensures) (step _ _ _ _ (c .before .before .before .complete2 .ensures) (ends _ _ _ (c .before .before .before .complete2 .ensures .fit)))))))))))))))
+  pub els-requires : Here lts.Need-els-requires
+  els-requires c κs = (omega (arith, entry-els-arg c .pre .0), c .before .before .before .bump2 .ensures .fit)
 
-pub expect-requires-5 : (t : ℕ) → lts.Need-expect-requires-5 (calls t) (sw-at t) sw.Post Inv-loop μ-loop
-expect-requires-5 t c κs = c .before .before .before .before .before .eat .ensures .fit
+  pub body-requires : Here lts.Need-body-requires
+  body-requires c κs =
+      let els = c .before .before .before in
+      let els-arg = els .before in
+      (omega (arith, entry-els-arg els-arg .pre .0), els .els .ensures .fit)
 
-pub complete-requires-3 : (t : ℕ) → lts.Need-complete-requires-3 (calls t) (sw-at t) sw.Post Inv-loop μ-loop
-complete-requires-3 t c κs = c .before .before .before .before .expect5 .ensures .fit
+  pub complete-requires : Here lts.Need-complete-requires
+  complete-requires c κs = c .before .before .before .body .ensures .fit
 
-pub same-length-2 : (t : ℕ) → lts.Need-same-length-2 (calls t) (sw-at t) sw.Post Inv-loop μ-loop
-same-length-2 t c = c .before .before .before .complete3 .kept .1 .0 ∙ c .before .before .before .before .before .before .before .before .expect5 .kept .1 .1 .1 .0 ∙ c .before .before .before .before .before .before .before .before .before .before .before .before .before .before .eat .kept .1 .1 .1 .0 ∙ c .before .before .before .before .before .before .before .before .before .before .before .before .before .before .before .before .before .before .loop .inv .0 ∙ c .before .before .before .before .before .before .before .before .before .before .before .before .before .before .before .before .before .before .before .before .before .fail-unless-at .kept .1 .1 .0 ∙ c .before .before .before .before .before .before .before .before .before .before .before .before .before .before .before .before .before .before .before .before .before .before .before .before .before .before .expect3 .kept .1 .1 .1 .0 ∙ c .before .before .before .before .before .before .before .before .before .before .before .before .before .before .before .before .before .before .before .before .before .before .before .before .before .before .before .before .before .before .before .expect2 .kept .1 .1 .1 .0 ∙ c .before .before .before .before .before .before .before .before .before .before .before .before .before .before .before .before .before .before .before .before .before .before .before .before .before .before .before .before .before .before .before .before .before .before .before .before .expr-bp .kept .1 .1 .0 ∙ c .before .before .before .before .before .before .before .before .before .before .before .before .before .before .before .before .before .before .before .before .before .before .before .before .before .before .before .before .before .before .before .before .before .before .before .before .before .before .before .before .before .expect .kept .1 .1 .1 .0 ∙ c .before .before .before .before .before .before .before .before .before .before .before .before .before .before .before .before .before .before .before .before .before .before .before .before .before .before .before .before .before .before .before .before .before .before .before .before .before .before .before .before .before .before .before .before .before .bump .kept .1 .1 .1 .0 ∙ c .before .before .before .before .before .before .before .before .before .before .before .before .before .before .before .before .before .before .before .before .before .before .before .before .before .before .before .before .before .before .before .before .before .before .before .before .before .before .before .before .before .before .before .before .before .before .before .before .before .must .kept .1 .1 .1 .0
+  pub loop-less : Here lts.Need-loop-less
+  loop-less c =
+      let complete = c .before .before .before in
+      let body = complete .before .before .before .before in
+      let els = body .before .before .before .before in
+      let bump2 = els .before .before .before .before in
+      let start = bump2 .before .before .before .before .before in
+      let if1 = start .before .before in
+      let at = if1 .before in
+      lt-of-le-of-lt (spent-steps _ _ (complete .complete .ensures)) (lt-of-le-of-lt (spent-does _ _ _ (body .body .ensures))
+      (lt-of-le-of-lt (spent-does _ _ _ (els .els .ensures)) (falls-after _ _ _ _ (spends-bump _) (left-sees _ _ CASE-KW (λ z.
+      omega arith) (sym (at .at .ensures) ∙ if1 .if1 .taken)) (spent-steps _ _ (start .start .ensures)) (bump2 .bump2
+      .ensures))))
 
-pub returns-2 : (t : ℕ) → lts.Need-returns-2 (calls t) (sw-at t) sw.Post Inv-loop μ-loop
-unfolding I.switchCaseStmt I.switchCaseStmtRound
-returns-2 t c = simp (assoc, pick-bind, done-bind) (then _ _ _ _ (c .before .before .before .before .before .before .before .before .before .before .before .before .before .before .before .before .before .before .before .before .before .before .before .before .before .before .before .before .before .before .before .before .before .before .before .before .before .before .before .before .before .before .before .before .before .before .before .before .before .must .ensures) (then _ _ _ _ (c .before .before .before .before .before .before .before .before .before .before .before .before .before .before .before .before .before .before .before .before .before .before .before .before .before .before .before .before .before .before .before .before .before .before .before .before .before .before .before .before .before .before .before .before .before .bump .ensures) (then _ _ _ _ (c .before .before .before .before .before .before .before .before .before .before .before .before .before .before .before .before .before .before .before .before .before .before .before .before .before .before .before .before .before .before .before .before .before .before .before .before .before .before .before .before .before .expect .ensures) (then _ _ _ _ (c .before .before .before .before .before .before .before .before .before .before .before .before .before .before .before .before .before .before .before .before .before .before .before .before .before .before .before .before .before .before .before .before .before .before .before .before .expr-bp .ensures) (then _ _ _ _ (c .before .before .before .before .before .before .before .before .before .before .before .before .before .before .before .before .before .before .before .before .before .before .before .before .before .before .before .before .before .before .before .expect2 .ensures) (then _ _ _ _ (c .before .before .before .before .before .before .before .before .before .before .before .before .before .before .before .before .before .before .before .before .before .before .before .before .before .before .expect3 .ensures) (then _ _ _ _ (c .before .before .before .before .before .before .before .before .before .before .before .before .before .before .before .before .before .before .before .before .before .fail-unless-at .ensures) (then _ _ _ _ (ran-done _ _ _ _ _ _ _ _ (c .before .before .before .before .before .before .before .before .before .before .before .before .before .before .before .before .before .before .loop .inv .1) (see _ _ _ _ (c .before .before .before .before .before .before .before .before .before .before .before .before .before .before .before .before .before .at .ensures) (rw (c .before .before .before .before .before .before .before .before .before .before .before .before .before .before .before .before .if1 .left) (ends _ _ _ (c .before .before .before .before .before .before .before .before .before .before .before .before .before .before .before .before .before .before .loop .inv .1 .3))))) (then _ _ _ _ (c .before .before .before .before .before .before .before .before .before .before .before .before .before .before .eat .ensures) (rw (c .before .before .before .before .before .before .before .before .before .before .if2 .left) (then _ _ _ _ (c .before .before .before .before .before .before .before .before .expect5 .ensures) (step _ _ _ _ (c .before .before .before .complete3 .ensures) (ends _ _ _ (c .before .before .before .complete3 .ensures .fit))))))))))))))
+  pub loop-again : Here lts.Need-loop-again
+  unfolding I.switchCaseStmt I.switchCaseStmtRound
+  loop-again c =
+      let complete = c .before .before .before in
+      let body = complete .before .before .before .before in
+      let els = body .before .before .before .before in
+      let bump2 = els .before .before .before .before in
+      let start = bump2 .before .before .before .before .before in
+      let if1 = start .before .before in
+      let at = if1 .before in
+      let loop = at .before in (
+        complete .complete .kept .1 .0 ∙ body .body .kept .1 .1 .0 ∙ els .els .kept .1 .1 .0 ∙ bump2 .bump2 .kept .1 .1 .1 .0 ∙
+            start .start .kept .1 .0 ∙ loop .loop .inv .0,
+        ran-more _ _ _ _ _ _ _ _ (loop .loop .inv .1)
+            (see _ _ _ _ (at .at .ensures)
+            (rw (if1 .if1 .taken)
+            (step _ _ _ _ (start .start .ensures)
+            (then _ _ _ _ (bump2 .bump2 .ensures)
+            (then _ _ _ _ (els .els .ensures)
+            (then _ _ _ _ (body .body .ensures)
+            (step _ _ _ _ (complete .complete .ensures)
+            (ends _ _ _ (complete .complete .ensures .fit)))))))))
+            (lt-of-le-of-lt (spent-steps _ _ (complete .complete .ensures)) (lt-of-le-of-lt (spent-does _ _ _ (body .body .ensures))
+            (lt-of-le-of-lt (spent-does _ _ _ (els .els .ensures)) (falls-after _ _ _ _ (spends-bump _) (left-sees _ _ CASE-KW (λ z.
+            omega arith) (sym (at .at .ensures) ∙ if1 .if1 .taken)) (spent-steps _ _ (start .start .ensures)) (bump2 .bump2
+            .ensures))))),
+      )
+
+  pub eat-requires : Here lts.Need-eat-requires
+  eat-requires c κs = c .before .before .before .loop .inv .1 .3
+
+  pub body-requires-2 : Here lts.Need-body-requires-2
+  body-requires-2 c κs = (
+    omega (arith, entry-eat (c .before .before .before .before .before) .pre .0),
+    c .before .before .before
+        .before .before .eat .ensures .fit,
+  )
+
+  pub expect-requires-4 : Here lts.Need-expect-requires-4
+  expect-requires-4 c κs = c .before .before .before .body2 .ensures .fit
+
+  pub complete-requires-2 : Here lts.Need-complete-requires-2
+  complete-requires-2 c κs = c .before .before .before .before .expect4 .ensures .fit
+
+  pub same-length : Here lts.Need-same-length
+  same-length c =
+      let complete2 = c .before .before .before in
+      let expect4 = complete2 .before .before .before .before .before in
+      let body2 = expect4 .before .before .before .before in
+      let eat = body2 .before .before .before .before .before .before in
+      complete2 .complete2 .kept .1 .0 ∙ expect4 .expect4 .kept .1 .1 .1 .0 ∙ body2 .body2 .kept .1 .1 .0 ∙ kept-eat eat
+
+  pub returns : Here lts.Need-returns
+  unfolding I.switchCaseStmt I.switchCaseStmtRound
+  returns c =
+      let complete2 = c .before .before .before in
+      let expect4 = complete2 .before .before .before .before .before in
+      let body2 = expect4 .before .before .before .before in
+      let if2 = body2 .before .before in
+      let eat = if2 .before .before .before .before in
+      let if1 = eat .before .before in
+      let at = if1 .before in
+      let loop = at .before in
+      let fail-unless-at = loop .before .before .before in
+      let expect3 = fail-unless-at .before .before .before .before .before in
+      let expect2 = expect3 .before .before .before .before .before in
+      let expr-bp = expect2 .before .before .before .before .before in
+      let expect = expr-bp .before .before .before .before .before in
+      let bump = expect .before .before .before .before in
+      let must = bump .before .before .before .before in
+      simp (assoc, pick-bind, done-bind)
+      (then _ _ _ _ (must .must .ensures)
+      (then _ _ _ _ (bump .bump .ensures)
+      (then _ _ _ _ (expect .expect .ensures)
+      (then _ _ _ _ (expr-bp .expr-bp .ensures)
+      (then _ _ _ _ (expect2 .expect2 .ensures)
+      (then _ _ _ _ (expect3 .expect3 .ensures)
+      (then _ _ _ _ (fail-unless-at .fail-unless-at .ensures)
+      (then _ _ _ _ (ran-done _ _ _ _ _ _ _ _ (loop .loop .inv .1)
+      (see _ _ _ _ (at .at .ensures)
+      (rw (if1 .if1 .left)
+      (ends _ _ _ (loop .loop .inv .1 .3)))))
+      (then _ _ _ _ (eat .eat .ensures)
+      (rw (if2 .if2 .taken)
+      (then _ _ _ _ (body2 .body2 .ensures)
+      (then _ _ _ _ (expect4 .expect4 .ensures)
+      (step _ _ _ _ (complete2 .complete2 .ensures)
+      (ends _ _ _ (complete2 .complete2 .ensures .fit)))))))))))))))
+
+  pub expect-requires-5 : Here lts.Need-expect-requires-5
+  expect-requires-5 c κs = c .before .before .before .before .before .eat .ensures .fit
+
+  pub complete-requires-3 : Here lts.Need-complete-requires-3
+  complete-requires-3 c κs = c .before .before .before .before .expect5 .ensures .fit
+
+  pub same-length-2 : Here lts.Need-same-length-2
+  same-length-2 c =
+      let complete3 = c .before .before .before in
+      let expect5 = complete3 .before .before .before .before .before in
+      let eat = expect5 .before .before .before .before .before .before in
+      complete3 .complete3 .kept .1 .0 ∙ expect5 .expect5 .kept .1 .1 .1 .0 ∙ kept-eat eat
+
+  pub returns-2 : Here lts.Need-returns-2
+  unfolding I.switchCaseStmt I.switchCaseStmtRound
+  returns-2 c =
+      let complete3 = c .before .before .before in
+      let expect5 = complete3 .before .before .before .before .before in
+      let if2 = expect5 .before .before in
+      let eat = if2 .before .before .before .before in
+      let if1 = eat .before .before in
+      let at = if1 .before in
+      let loop = at .before in
+      let fail-unless-at = loop .before .before .before in
+      let expect3 = fail-unless-at .before .before .before .before .before in
+      let expect2 = expect3 .before .before .before .before .before in
+      let expr-bp = expect2 .before .before .before .before .before in
+      let expect = expr-bp .before .before .before .before .before in
+      let bump = expect .before .before .before .before in
+      let must = bump .before .before .before .before in
+      simp (assoc, pick-bind, done-bind)
+      (then _ _ _ _ (must .must .ensures)
+      (then _ _ _ _ (bump .bump .ensures)
+      (then _ _ _ _ (expect .expect .ensures)
+      (then _ _ _ _ (expr-bp .expr-bp .ensures)
+      (then _ _ _ _ (expect2 .expect2 .ensures)
+      (then _ _ _ _ (expect3 .expect3 .ensures)
+      (then _ _ _ _ (fail-unless-at .fail-unless-at .ensures)
+      (then _ _ _ _ (ran-done _ _ _ _ _ _ _ _ (loop .loop .inv .1)
+      (see _ _ _ _ (at .at .ensures)
+      (rw (if1 .if1 .left)
+      (ends _ _ _ (loop .loop .inv .1 .3)))))
+      (then _ _ _ _ (eat .eat .ensures)
+      (rw (if2 .if2 .left)
+      (then _ _ _ _ (expect5 .expect5 .ensures)
+      (step _ _ _ _ (complete3 .complete3 .ensures)
+      (ends _ _ _ (complete3 .complete3 .ensures .fit))))))))))))))

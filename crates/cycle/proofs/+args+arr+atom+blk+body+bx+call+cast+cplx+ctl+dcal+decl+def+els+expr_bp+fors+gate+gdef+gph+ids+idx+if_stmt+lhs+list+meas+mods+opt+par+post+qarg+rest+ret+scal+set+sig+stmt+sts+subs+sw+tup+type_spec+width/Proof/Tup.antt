@@ -1,6 +1,7 @@
+-- Written by tools/proofs from the code, the definitions and hints.py: docs/PRODUCTIONS.md says how to change it.
 -- `tup`.
 use borrow.Author.Needs.{needs}
-use Rattle.runtime.proofs.Laws.{then, step, go, ask, ends, Ran, ran-none, ran-more, ran-done, spent-does, falls, left-goes}
+use Rattle.runtime.proofs.Laws.{then, step, go, ends, Ran, ran-none, ran-more, ran-done, spent-does, falls, left-goes}
 use native.Mathlib.Nat.{lt-of-le-of-lt}
 use native.Mathlib.Omega.{arith}
 use lib.ListN.{length}
@@ -10,6 +11,7 @@ use Rattle.runtime.specs.State.{view}
 use Rattle.grammar.specs.Operators.{tableOf}
 use Rattle.grammar.specs.Entry.{counted}
 use Prim.Native.Nat.{ℕ}
+use Rattle.cycle.proofs.Depth.{exprBp-spends}
 use Rattle.runtime.specs.Acts as acts
 use Rattle.grammar.specs.Atom as A
 use Rattle.grammar.proofs.atom.tuple_comma.Reads as tuple-comma-reads
@@ -21,73 +23,191 @@ use Rattle.runtime.proofs.parser.Parser.must.Reads as must-reads
 use Rattle.runtime.proofs.parser.Parser.start.Reads as start-reads
 use Rattle.cycle.proofs.expr_bp.Reads as expr-bp
 use Rattle.cycle.proofs.tup.Reads as tup
-use Rattle.cycle.proofs.+args+arr+atom+blk+body+bx+call+cast+cplx+ctl+dcal+decl+def+els+expr_bp+fors+gate+gdef+gph+ids+idx+if_stmt+lhs+list+meas+mods+opt+par+post+qarg+rest+ret+scal+set+sig+stmt+sts+subs+sw+tup+type_spec+width.Lts-tup as lts
-use Rattle.cycle.proofs.+args+arr+atom+blk+body+bx+call+cast+cplx+ctl+dcal+decl+def+els+expr_bp+fors+gate+gdef+gph+ids+idx+if_stmt+lhs+list+meas+mods+opt+par+post+qarg+rest+ret+scal+set+sig+stmt+sts+subs+sw+tup+type_spec+width.Proof.Frame.{expr-bp-below, tup-at}
-use Rattle.cycle.proofs.Depth.{exprBp-spends}
+use Rattle.cycle.proofs.+args+arr+atom+blk+body+bx+call+cast+cplx+ctl+dcal+decl+def+els+expr_bp+fors+gate+gdef+gph+ids+idx+if_stmt+lhs+list+meas+mods+opt+par+post+qarg+rest+ret+scal+set+sig+stmt+sts+subs+sw+tup+type_spec+width as cycle
+use cycle.Lts-tup as lts
+use cycle.Proof.Frame.{expr-bp-below, tup-at}
+use Rattle.cycle.proofs.tup.Kinds as kinds
+use borrow.Fn.Kinds.{In, Out}
 
 -- what the callees ask and give
 abbrev pub calls : ℕ → lts.Claims
-calls t = (must-reads.Asked, must-reads.Learnt, start-reads.Asked, start-reads.Learnt, expect-reads.Asked, expect-reads.Learnt, tuple-comma-reads.Asked, tuple-comma-reads.Learnt, goes-on-reads.Asked, goes-on-reads.Learnt, expr-bp-below t, expr-bp.Post, tuple-end-reads.Asked, tuple-end-reads.Learnt, tuple-next-reads.Asked, tuple-next-reads.Learnt)
+calls t = (
+  must-reads.Asked,
+  must-reads.Learnt,
+  start-reads.Asked,
+  start-reads.Learnt,
+  expect-reads.Asked,
+  expect-reads.Learnt,
+  tuple-comma-reads.Asked,
+  tuple-comma-reads.Learnt,
+  goes-on-reads.Asked,
+  goes-on-reads.Learnt,
+  expr-bp-below t,
+  expr-bp.Post,
+  tuple-end-reads.Asked,
+  tuple-end-reads.Learnt,
+  tuple-next-reads.Asked,
+  tuple-next-reads.Learnt,
+)
 
 abbrev pub Inv-loop : lts.InvT-loop
-Inv-loop kinds joints room₀ mode left m q₀ comma₀ saw₀ room q comma saw = (length room ≡ length room₀) × Ran (env kinds joints) (A.tupleExprRound (counted (tableOf mode) left)) (saw₀, comma₀) (view q₀ room₀) (saw, comma) (view q room)
+Inv-loop kinds joints room₀ mode left m q₀ comma₀ saw₀ room q comma saw = (length room ≡ length room₀) × Ran (env kinds joints)
+    (A.tupleExprRound (counted (tableOf mode) left)) (saw₀, comma₀) (view q₀ room₀) (saw, comma) (view q room)
 
 abbrev pub μ-loop : lts.MeasureT-loop
 μ-loop kinds joints room₀ mode left m q₀ comma₀ saw₀ room q comma saw = acts.left q
 
-pub must-requires : (t : ℕ) → lts.Need-must-requires (calls t) (tup-at t) tup.Post Inv-loop μ-loop
-must-requires t c κs = c .before .before .before .before .pre .1
+module _ (t : ℕ) where
+  abbrev Here : (lts.Claims → In 3 kinds.ps → Out 3 kinds.ps kinds.r → lts.InvT-loop → lts.MeasureT-loop → Type 0) → Type 0
+  Here X = X (calls t) (tup-at t) tup.Post Inv-loop μ-loop
 
-pub start-requires : (t : ℕ) → lts.Need-start-requires (calls t) (tup-at t) tup.Post Inv-loop μ-loop
-start-requires t c κs = c .before .before .before .must .ensures .fit
+  abbrev entry-must : Here lts.After-must → Here lts.Start
+  entry-must c = c .before .before .before .before .before
 
-pub expect-requires : (t : ℕ) → lts.Need-expect-requires (calls t) (tup-at t) tup.Post Inv-loop μ-loop
-expect-requires t c κs = c .before .before .before .before .start .ensures .fit
+  abbrev entry-expect : Here lts.After-expect → Here lts.Start
+  entry-expect c = entry-must (c .before .before .before .before .before .before .before .before .before)
 
-pub tuple-comma-requires : (t : ℕ) → lts.Need-tuple-comma-requires (calls t) (tup-at t) tup.Post Inv-loop μ-loop
-tuple-comma-requires t c κs = c .before .before .before .before .expect .ensures .fit
+  abbrev entry-loop : Here lts.At-loop → Here lts.Start
+  entry-loop c = entry-expect (c .before .before .before .before .before .before .before .before .before)
 
-pub loop-holds : (t : ℕ) → lts.Need-loop-holds (calls t) (tup-at t) tup.Post Inv-loop μ-loop
-loop-holds t c = (refl, ran-none _ _ _ _ (c .before .before .before .tuple-comma .ensures .fit))
+  kept-loop : (c : Here lts.At-loop) → length (c .loop .room) ≡ length (entry-loop c .args .room .now)
+  kept-loop c =
+      let tuple-comma = c .before .before .before .before in
+      let expect = tuple-comma .before .before .before .before .before in
+      let start = expect .before .before .before .before .before in
+      let must = start .before .before .before .before in
+      c .loop .inv .0 ∙ tuple-comma .tuple-comma .kept .1 .1 .0 ∙ expect .expect .kept .1 .1 .1 .0 ∙ start .start .kept .1 .0 ∙
+      must .must .kept .1 .1 .1 .0
 
-pub goes-on-requires : (t : ℕ) → lts.Need-goes-on-requires (calls t) (tup-at t) tup.Post Inv-loop μ-loop
-goes-on-requires t c κs = c .loop .inv .1 .3
+  pub must-requires : Here lts.Need-must-requires
+  must-requires c κs = c .before .before .before .before .pre .1
 
-pub expr-bp-requires : (t : ℕ) → lts.Need-expr-bp-requires (calls t) (tup-at t) tup.Post Inv-loop μ-loop
-expr-bp-requires t c κs = (omega (arith, c .before .before .before .before .before .before .before .before .before .before .before .before .before .before .before .before .before .before .before .before .before .before .before .before .before .before .pre .0), (c .before .before .before .loop .inv .1 .3, search needs))
+  pub start-requires : Here lts.Need-start-requires
+  start-requires c κs = c .before .before .before .must .ensures .fit
 
-pub enum-told : (t : ℕ) → lts.Need-enum-told (calls t) (tup-at t) tup.Post Inv-loop μ-loop
-enum-told t c = search needs
+  pub expect-requires : Here lts.Need-expect-requires
+  expect-requires c κs = c .before .before .before .before .start .ensures .fit
 
-pub enum-told-2 : (t : ℕ) → lts.Need-enum-told-2 (calls t) (tup-at t) tup.Post Inv-loop μ-loop
-enum-told-2 t c = search needs
+  pub tuple-comma-requires : Here lts.Need-tuple-comma-requires
+  tuple-comma-requires c κs = c .before .before .before .before .expect .ensures .fit
 
-pub tuple-end-requires : (t : ℕ) → lts.Need-tuple-end-requires (calls t) (tup-at t) tup.Post Inv-loop μ-loop
-tuple-end-requires t c κs = c .before .before .before .before .before .before .expr-bp .ensures .fit
+  pub loop-holds : Here lts.Need-loop-holds
+  loop-holds c = (refl, ran-none _ _ _ _ (c .before .before .before .tuple-comma .ensures .fit))
 
-pub same-length : (t : ℕ) → lts.Need-same-length (calls t) (tup-at t) tup.Post Inv-loop μ-loop
-same-length t c = c .before .before .tuple-end .kept .1 .1 .0 ∙ c .before .before .before .before .before .before .before .before .before .expr-bp .kept .1 .1 .0 ∙ c .before .before .before .before .before .before .before .before .before .before .before .before .before .loop .inv .0 ∙ c .before .before .before .before .before .before .before .before .before .before .before .before .before .before .before .before .before .tuple-comma .kept .1 .1 .0 ∙ c .before .before .before .before .before .before .before .before .before .before .before .before .before .before .before .before .before .before .before .before .before .before .expect .kept .1 .1 .1 .0 ∙ c .before .before .before .before .before .before .before .before .before .before .before .before .before .before .before .before .before .before .before .before .before .before .before .before .before .before .before .start .kept .1 .0 ∙ c .before .before .before .before .before .before .before .before .before .before .before .before .before .before .before .before .before .before .before .before .before .before .before .before .before .before .before .before .before .before .before .must .kept .1 .1 .1 .0
+  pub goes-on-requires : Here lts.Need-goes-on-requires
+  goes-on-requires c κs = c .loop .inv .1 .3
 
-pub returns : (t : ℕ) → lts.Need-returns (calls t) (tup-at t) tup.Post Inv-loop μ-loop
-unfolding A.tupleExpr A.tupleExprRound
-returns t c = then _ _ _ _ (c .before .before .before .before .before .before .before .before .before .before .before .before .before .before .before .before .before .before .before .before .before .before .before .before .before .before .before .before .before .before .before .must .ensures) (step _ _ _ _ (c .before .before .before .before .before .before .before .before .before .before .before .before .before .before .before .before .before .before .before .before .before .before .before .before .before .before .before .start .ensures) (then _ _ _ _ (c .before .before .before .before .before .before .before .before .before .before .before .before .before .before .before .before .before .before .before .before .before .before .expect .ensures) (then _ _ _ _ (c .before .before .before .before .before .before .before .before .before .before .before .before .before .before .before .before .before .tuple-comma .ensures) (then _ _ _ _ (ran-done _ _ _ _ _ _ _ _ (c .before .before .before .before .before .before .before .before .before .before .before .before .before .loop .inv .1) (go _ _ _ _ (c .before .before .before .before .before .before .before .before .before .before .before .before .goes-on .ensures) (rw (c .before .before .before .before .before .before .before .before .before .before .before .if1 .taken) (then _ _ _ _ (c .before .before .before .before .before .before .before .before .before .expr-bp .ensures) (rw (c .before .before .before .before .enum-told2 .given .1) (ends _ _ _ (c .before .before .before .before .before .before .before .before .before .expr-bp .ensures .fit))))))) (c .before .before .tuple-end .ensures)))))
+  pub expr-bp-requires : Here lts.Need-expr-bp-requires
+  expr-bp-requires c κs = (
+    omega (arith, entry-loop (c .before .before .before) .pre .0),
+    (
+      c .before .before .before .loop .inv .1
+          .3,
+      search needs,
+    ),
+  )
 
-pub tuple-next-requires : (t : ℕ) → lts.Need-tuple-next-requires (calls t) (tup-at t) tup.Post Inv-loop μ-loop
-tuple-next-requires t c κs = c .before .before .before .before .before .before .expr-bp .ensures .fit
+  pub enum-told : Here lts.Need-enum-told
+  enum-told c = search needs
 
-pub loop-less : (t : ℕ) → lts.Need-loop-less (calls t) (tup-at t) tup.Post Inv-loop μ-loop
-loop-less t c = lt-of-le-of-lt (spent-does _ _ _ (c .before .before .before .tuple-next .ensures)) (falls _ _ _ (exprBp-spends _ _ _ _ _) (left-goes _ _ _ (sym (c .before .before .before .before .before .before .before .before .before .before .before .before .before .goes-on .ensures) ∙ c .before .before .before .before .before .before .before .before .before .before .before .before .if1 .taken)) (c .before .before .before .before .before .before .before .before .before .before .expr-bp .ensures))
+  pub enum-told-2 : Here lts.Need-enum-told-2
+  enum-told-2 c = search needs
 
-pub loop-again : (t : ℕ) → lts.Need-loop-again (calls t) (tup-at t) tup.Post Inv-loop μ-loop
-unfolding A.tupleExpr A.tupleExprRound
-loop-again t c = (c .before .before .before .tuple-next .kept .1 .1 .0 ∙ c .before .before .before .before .before .before .before .before .before .before .expr-bp .kept .1 .1 .0 ∙ c .before .before .before .before .before .before .before .before .before .before .before .before .before .before .loop .inv .0, ran-more _ _ _ _ _ _ _ _ (c .before .before .before .before .before .before .before .before .before .before .before .before .before .before .loop .inv .1) (go _ _ _ _ (c .before .before .before .before .before .before .before .before .before .before .before .before .before .goes-on .ensures) (rw (c .before .before .before .before .before .before .before .before .before .before .before .before .if1 .taken) (then _ _ _ _ (c .before .before .before .before .before .before .before .before .before .before .expr-bp .ensures) (rw (c .before .before .before .before .before .enum-told .given .1) (then _ _ _ _ (c .before .before .before .tuple-next .ensures) (ends _ _ _ (c .before .before .before .tuple-next .ensures .fit))))))) (lt-of-le-of-lt (spent-does _ _ _ (c .before .before .before .tuple-next .ensures)) (falls _ _ _ (exprBp-spends _ _ _ _ _) (left-goes _ _ _ (sym (c .before .before .before .before .before .before .before .before .before .before .before .before .before .goes-on .ensures) ∙ c .before .before .before .before .before .before .before .before .before .before .before .before .if1 .taken)) (c .before .before .before .before .before .before .before .before .before .before .expr-bp .ensures))))
+  pub tuple-end-requires : Here lts.Need-tuple-end-requires
+  tuple-end-requires c κs = c .before .before .before .before .before .before .expr-bp .ensures .fit
 
-pub tuple-end-requires-2 : (t : ℕ) → lts.Need-tuple-end-requires-2 (calls t) (tup-at t) tup.Post Inv-loop μ-loop
-tuple-end-requires-2 t c κs = c .before .before .before .loop .inv .1 .3
+  pub same-length : Here lts.Need-same-length
+  same-length c =
+      let tuple-end = c .before .before in
+      let expr-bp = tuple-end .before .before .before .before .before .before .before in
+      let loop = expr-bp .before .before .before .before in
+      tuple-end .tuple-end .kept .1 .1 .0 ∙ expr-bp .expr-bp .kept .1 .1 .0 ∙ kept-loop loop
 
-pub same-length-2 : (t : ℕ) → lts.Need-same-length-2 (calls t) (tup-at t) tup.Post Inv-loop μ-loop
-same-length-2 t c = c .before .before .tuple-end2 .kept .1 .1 .0 ∙ c .before .before .before .before .before .before .loop .inv .0 ∙ c .before .before .before .before .before .before .before .before .before .before .tuple-comma .kept .1 .1 .0 ∙ c .before .before .before .before .before .before .before .before .before .before .before .before .before .before .before .expect .kept .1 .1 .1 .0 ∙ c .before .before .before .before .before .before .before .before .before .before .before .before .before .before .before .before .before .before .before .before .start .kept .1 .0 ∙ c .before .before .before .before .before .before .before .before .before .before .before .before .before .before .before .before .before .before .before .before .before .before .before .before .must .kept .1 .1 .1 .0
+  pub returns : Here lts.Need-returns
+  unfolding A.tupleExpr A.tupleExprRound
+  returns c =
+      let tuple-end = c .before .before in
+      let enum-told2 = tuple-end .before .before in
+      let expr-bp = enum-told2 .before .before .before .before .before in
+      let if1 = expr-bp .before .before in
+      let goes-on = if1 .before in
+      let loop = goes-on .before in
+      let tuple-comma = loop .before .before .before .before in
+      let expect = tuple-comma .before .before .before .before .before in
+      let start = expect .before .before .before .before .before in
+      let must = start .before .before .before .before in
+      then _ _ _ _ (must .must .ensures)
+      (step _ _ _ _ (start .start .ensures)
+      (then _ _ _ _ (expect .expect .ensures)
+      (then _ _ _ _ (tuple-comma .tuple-comma .ensures)
+      (then _ _ _ _ (ran-done _ _ _ _ _ _ _ _ (loop .loop .inv .1)
+      (go _ _ _ _ (goes-on .goes-on .ensures)
+      (rw (if1 .if1 .taken)
+      (then _ _ _ _ (expr-bp .expr-bp .ensures)
+      (rw (enum-told2 .enum-told2 .given .1)
+      (ends _ _ _ (expr-bp .expr-bp .ensures .fit)))))))
+      (tuple-end .tuple-end .ensures)))))
 
-pub returns-2 : (t : ℕ) → lts.Need-returns-2 (calls t) (tup-at t) tup.Post Inv-loop μ-loop
-unfolding A.tupleExpr A.tupleExprRound
-returns-2 t c = then _ _ _ _ (c .before .before .before .before .before .before .before .before .before .before .before .before .before .before .before .before .before .before .before .before .before .before .before .before .must .ensures) (step _ _ _ _ (c .before .before .before .before .before .before .before .before .before .before .before .before .before .before .before .before .before .before .before .before .start .ensures) (then _ _ _ _ (c .before .before .before .before .before .before .before .before .before .before .before .before .before .before .before .expect .ensures) (then _ _ _ _ (c .before .before .before .before .before .before .before .before .before .before .tuple-comma .ensures) (then _ _ _ _ (ran-done _ _ _ _ _ _ _ _ (c .before .before .before .before .before .before .loop .inv .1) (go _ _ _ _ (c .before .before .before .before .before .goes-on .ensures) (rw (c .before .before .before .before .if1 .left) (ends _ _ _ (c .before .before .before .before .before .before .loop .inv .1 .3))))) (c .before .before .tuple-end2 .ensures)))))
+  pub tuple-next-requires : Here lts.Need-tuple-next-requires
+  tuple-next-requires c κs = c .before .before .before .before .before .before .expr-bp .ensures .fit
+
+  pub loop-less : Here lts.Need-loop-less
+  loop-less c =
+      let tuple-next = c .before .before .before in
+      let expr-bp = tuple-next .before .before .before .before .before .before .before in
+      let if1 = expr-bp .before .before in
+      let goes-on = if1 .before in
+      lt-of-le-of-lt (spent-does _ _ _ (tuple-next .tuple-next .ensures)) (falls _ _ _ (exprBp-spends _ _ _ _ _) (left-goes _ _ _
+      (sym (goes-on .goes-on .ensures) ∙ if1 .if1 .taken)) (expr-bp .expr-bp .ensures))
+
+  pub loop-again : Here lts.Need-loop-again
+  unfolding A.tupleExpr A.tupleExprRound
+  loop-again c =
+      let tuple-next = c .before .before .before in
+      let enum-told = tuple-next .before .before in
+      let expr-bp = enum-told .before .before .before .before .before in
+      let if1 = expr-bp .before .before in
+      let goes-on = if1 .before in
+      let loop = goes-on .before in (
+        tuple-next .tuple-next .kept .1 .1 .0 ∙ expr-bp .expr-bp .kept .1 .1 .0 ∙ loop .loop .inv .0,
+        ran-more _ _ _ _ _ _ _ _ (loop
+            .loop .inv .1)
+            (go _ _ _ _ (goes-on .goes-on .ensures)
+            (rw (if1 .if1 .taken)
+            (then _ _ _ _ (expr-bp .expr-bp .ensures)
+            (rw (enum-told .enum-told .given .1)
+            (then _ _ _ _ (tuple-next .tuple-next .ensures)
+            (ends _ _ _ (tuple-next .tuple-next .ensures .fit)))))))
+            (lt-of-le-of-lt (spent-does _ _ _ (tuple-next .tuple-next .ensures)) (falls _ _ _ (exprBp-spends _ _ _ _ _) (left-goes _ _ _
+            (sym (goes-on .goes-on .ensures) ∙ if1 .if1 .taken)) (expr-bp .expr-bp .ensures))),
+      )
+
+  pub tuple-end-requires-2 : Here lts.Need-tuple-end-requires-2
+  tuple-end-requires-2 c κs = c .before .before .before .loop .inv .1 .3
+
+  pub same-length-2 : Here lts.Need-same-length-2
+  same-length-2 c =
+      let tuple-end2 = c .before .before in
+      let loop = tuple-end2 .before .before .before .before in
+      tuple-end2 .tuple-end2 .kept .1 .1 .0 ∙ kept-loop loop
+
+  pub returns-2 : Here lts.Need-returns-2
+  unfolding A.tupleExpr A.tupleExprRound
+  returns-2 c =
+      let tuple-end2 = c .before .before in
+      let if1 = tuple-end2 .before .before in
+      let goes-on = if1 .before in
+      let loop = goes-on .before in
+      let tuple-comma = loop .before .before .before .before in
+      let expect = tuple-comma .before .before .before .before .before in
+      let start = expect .before .before .before .before .before in
+      let must = start .before .before .before .before in
+      then _ _ _ _ (must .must .ensures)
+      (step _ _ _ _ (start .start .ensures)
+      (then _ _ _ _ (expect .expect .ensures)
+      (then _ _ _ _ (tuple-comma .tuple-comma .ensures)
+      (then _ _ _ _ (ran-done _ _ _ _ _ _ _ _ (loop .loop .inv .1)
+      (go _ _ _ _ (goes-on .goes-on .ensures)
+      (rw (if1 .if1 .left)
+      (ends _ _ _ (loop .loop .inv .1 .3)))))
+      (tuple-end2 .tuple-end2 .ensures)))))

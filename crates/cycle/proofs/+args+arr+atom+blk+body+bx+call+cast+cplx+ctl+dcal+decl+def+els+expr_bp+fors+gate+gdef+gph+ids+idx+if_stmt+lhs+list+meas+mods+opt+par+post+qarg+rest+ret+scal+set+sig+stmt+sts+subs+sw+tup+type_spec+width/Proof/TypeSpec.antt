@@ -1,3 +1,4 @@
+-- Written by tools/proofs from the code, the definitions and hints.py: docs/PRODUCTIONS.md says how to change it.
 -- `type_spec`.
 use borrow.Author.Needs.{needs}
 use Rattle.runtime.proofs.Laws.{then, step, see, ask, any, ends, Ran, ran-none, ran-more, ran-done, spent-does, falls, left-asked}
@@ -10,6 +11,7 @@ use Rattle.runtime.specs.State.{view}
 use Rattle.grammar.specs.Operators.{tableOf}
 use Rattle.grammar.specs.Entry.{counted}
 use Prim.Native.Nat.{ℕ}
+use Rattle.cycle.proofs.Depth.{typeSpec-deeper, exprBp-spends}
 use Rattle.runtime.specs.Acts as acts
 use Rattle.grammar.specs.Expressions as E
 use Rattle.grammar.proofs.expressions.array_base.Reads as array-base-reads
@@ -24,108 +26,310 @@ use Rattle.runtime.proofs.parser.Parser.stop.Reads as stop-reads
 use Rattle.cycle.proofs.expr_bp.Reads as expr-bp
 use Rattle.cycle.proofs.scal.Reads as scal
 use Rattle.cycle.proofs.type_spec.Reads as type-spec
-use Rattle.cycle.proofs.+args+arr+atom+blk+body+bx+call+cast+cplx+ctl+dcal+decl+def+els+expr_bp+fors+gate+gdef+gph+ids+idx+if_stmt+lhs+list+meas+mods+opt+par+post+qarg+rest+ret+scal+set+sig+stmt+sts+subs+sw+tup+type_spec+width.Lts-type_spec as lts
-use Rattle.cycle.proofs.+args+arr+atom+blk+body+bx+call+cast+cplx+ctl+dcal+decl+def+els+expr_bp+fors+gate+gdef+gph+ids+idx+if_stmt+lhs+list+meas+mods+opt+par+post+qarg+rest+ret+scal+set+sig+stmt+sts+subs+sw+tup+type_spec+width.Proof.Frame.{expr-bp-below, scal-below, type-spec-at, type-spec-below}
-use Rattle.cycle.proofs.Depth.{typeSpec-deeper, exprBp-spends}
+use Rattle.cycle.proofs.+args+arr+atom+blk+body+bx+call+cast+cplx+ctl+dcal+decl+def+els+expr_bp+fors+gate+gdef+gph+ids+idx+if_stmt+lhs+list+meas+mods+opt+par+post+qarg+rest+ret+scal+set+sig+stmt+sts+subs+sw+tup+type_spec+width as cycle
+use cycle.Lts-type_spec as lts
+use cycle.Proof.Frame.{expr-bp-below, scal-below, type-spec-at, type-spec-below}
+use Rattle.cycle.proofs.type_spec.Kinds as kinds
+use borrow.Fn.Kinds.{In, Out}
 
 -- what the callees ask and give
 abbrev pub calls : ℕ → lts.Claims
-calls t = (stop-reads.Asked, stop-reads.Learnt, at-reads.Asked, at-reads.Learnt, must-reads.Asked, must-reads.Learnt, start-reads.Asked, start-reads.Learnt, bump-any-reads.Asked, bump-any-reads.Learnt, expect-reads.Asked, expect-reads.Learnt, array-base-reads.Asked, array-base-reads.Learnt, type-spec-below t, type-spec.Post, expr-bp-below t, expr-bp.Post, complete-reads.Asked, complete-reads.Learnt, is-refused-reads.Asked, is-refused-reads.Learnt, scal-below t, scal.Post)
+calls t = (
+  stop-reads.Asked,
+  stop-reads.Learnt,
+  at-reads.Asked,
+  at-reads.Learnt,
+  must-reads.Asked,
+  must-reads.Learnt,
+  start-reads.Asked,
+  start-reads.Learnt,
+  bump-any-reads.Asked,
+  bump-any-reads.Learnt,
+  expect-reads.Asked,
+  expect-reads.Learnt,
+  array-base-reads.Asked,
+  array-base-reads.Learnt,
+  type-spec-below t,
+  type-spec.Post,
+  expr-bp-below t,
+  expr-bp.Post,
+  complete-reads.Asked,
+  complete-reads.Learnt,
+  is-refused-reads.Asked,
+  is-refused-reads.Learnt,
+  scal-below t,
+  scal.Post,
+)
 
 abbrev pub Inv-loop : lts.InvT-loop
-Inv-loop kinds joints room₀ mode left d m q₀ room q = (length room ≡ length room₀) × Ran (env kinds joints) (E.arrayTypeSpecRound (counted (tableOf mode) d)) tt (view q₀ room₀) tt (view q room)
+Inv-loop kinds joints room₀ mode left d m q₀ room q = (length room ≡ length room₀) × Ran (env kinds joints) (E.arrayTypeSpecRound
+    (counted (tableOf mode) d)) tt (view q₀ room₀) tt (view q room)
 
 abbrev pub μ-loop : lts.MeasureT-loop
 μ-loop kinds joints room₀ mode left d m q₀ room q = acts.left q
 
-pub stop-requires : (t : ℕ) → lts.Need-stop-requires (calls t) (type-spec-at t) type-spec.Post Inv-loop μ-loop
-stop-requires t c κs = c .before .before .before .before .before .pre .1
+module _ (t : ℕ) where
+  abbrev Here : (lts.Claims → In 3 kinds.ps → Out 3 kinds.ps kinds.r → lts.InvT-loop → lts.MeasureT-loop → Type 0) → Type 0
+  Here X = X (calls t) (type-spec-at t) type-spec.Post Inv-loop μ-loop
 
-pub same-length : (t : ℕ) → lts.Need-same-length (calls t) (type-spec-at t) type-spec.Post Inv-loop μ-loop
-same-length t c = c .before .before .stop .kept .1 .0
+  abbrev entry-if1-left : Here lts.Else1 → Here lts.Start
+  entry-if1-left c = c .before .before .before .before
 
-pub returns : (t : ℕ) → lts.Need-returns (calls t) (type-spec-at t) type-spec.Post Inv-loop μ-loop
-unfolding counted
-returns t c = rw (c .before .before .before .before .if1 .taken) (any _ _ _ (c .before .before .stop .ensures))
+  abbrev entry-start : Here lts.After-start → Here lts.Start
+  entry-start c = entry-if1-left (c .before .before .before .before .before .before .before .before)
 
-pub sub-d : (t : ℕ) → lts.Need-sub-d (calls t) (type-spec-at t) type-spec.Post Inv-loop μ-loop
-sub-d t c = search needs
+  abbrev entry-expect : Here lts.After-expect → Here lts.Start
+  entry-expect c = entry-start (c .before .before .before .before .before .before .before .before .before)
 
-pub at-requires : (t : ℕ) → lts.Need-at-requires (calls t) (type-spec-at t) type-spec.Post Inv-loop μ-loop
-at-requires t c κs = c .before .before .before .before .pre .1
+  abbrev entry-type-spec-arg : Here lts.After-type-spec-arg → Here lts.Start
+  entry-type-spec-arg c = entry-expect (c .before .before .before .before .before .before .before .before)
 
-pub must-requires : (t : ℕ) → lts.Need-must-requires (calls t) (type-spec-at t) type-spec.Post Inv-loop μ-loop
-must-requires t c κs = c .before .before .before .before .before .before .before .pre .1
+  abbrev entry-type-spec : Here lts.After-type-spec → Here lts.Start
+  entry-type-spec c = entry-type-spec-arg (c .before)
 
-pub start-requires : (t : ℕ) → lts.Need-start-requires (calls t) (type-spec-at t) type-spec.Post Inv-loop μ-loop
-start-requires t c κs = c .before .before .before .must .ensures .fit
+  abbrev entry-expr-bp : Here lts.After-expr-bp → Here lts.Start
+  entry-expr-bp c = entry-type-spec (c .before .before .before .before .before .before .before .before .before .before)
 
-pub bump-any-requires : (t : ℕ) → lts.Need-bump-any-requires (calls t) (type-spec-at t) type-spec.Post Inv-loop μ-loop
-bump-any-requires t c κs = c .before .before .before .before .start .ensures .fit
+  kept-expr-bp : (c : Here lts.After-expr-bp) → length (c .expr-bp .last .1 .1 .0) ≡ length (entry-expr-bp c .args .room .now)
+  kept-expr-bp c =
+      let loop = c .before .before in
+      let expect2 = loop .before .before .before .before in
+      let type-spec = expect2 .before .before .before .before in
+      let array-base = type-spec .before .before .before .before in
+      let expect = array-base .before .before .before .before .before in
+      let bump-any = expect .before .before .before .before in
+      let start = bump-any .before .before .before .before .before in
+      let must = start .before .before .before .before in
+      c .expr-bp .kept .1 .1 .0 ∙ loop .loop .inv .0 ∙ expect2 .expect2 .kept .1 .1 .1 .0 ∙ type-spec .type-spec .kept .1 .1 .0 ∙
+      array-base .array-base .kept .1 .1 .0 ∙ expect .expect .kept .1 .1 .1 .0 ∙ bump-any .bump-any .kept .1 .1 .1 .0 ∙ start
+      .start .kept .1 .0 ∙ must .must .kept .1 .1 .1 .0
 
-pub expect-requires : (t : ℕ) → lts.Need-expect-requires (calls t) (type-spec-at t) type-spec.Post Inv-loop μ-loop
-expect-requires t c κs = c .before .before .before .bump-any .ensures .fit
+  pub stop-requires : Here lts.Need-stop-requires
+  stop-requires c κs = c .before .before .before .before .before .pre .1
 
-pub array-base-requires : (t : ℕ) → lts.Need-array-base-requires (calls t) (type-spec-at t) type-spec.Post Inv-loop μ-loop
-array-base-requires t c κs = c .before .before .before .before .expect .ensures .fit
+  pub same-length : Here lts.Need-same-length
+  same-length c = c .before .before .stop .kept .1 .0
 
-pub type-spec-requires : (t : ℕ) → lts.Need-type-spec-requires (calls t) (type-spec-at t) type-spec.Post Inv-loop μ-loop
-type-spec-requires t c κs = (omega (arith, c .before .before .before .before .before .before .before .before .before .before .before .before .before .before .before .before .before .before .before .before .before .before .before .before .before .before .before .before .before .pre .0, c .before .before .before .before .before .before .before .before .before .before .before .before .before .before .before .before .before .before .before .before .before .before .before .before .before .if1 .left), c .before .before .before .array-base .ensures .fit)
+  pub returns : Here lts.Need-returns
+  unfolding counted
+  returns c =
+      let stop = c .before .before in
+      let if1 = stop .before .before in
+      rw (if1 .if1 .taken)
+      (any _ _ _ (stop .stop .ensures))
 
-pub expect-requires-2 : (t : ℕ) → lts.Need-expect-requires-2 (calls t) (type-spec-at t) type-spec.Post Inv-loop μ-loop
-expect-requires-2 t c κs = c .before .before .before .type-spec .ensures .fit
+  pub sub-d : Here lts.Need-sub-d
+  sub-d c = search needs
 
-pub loop-holds : (t : ℕ) → lts.Need-loop-holds (calls t) (type-spec-at t) type-spec.Post Inv-loop μ-loop
-loop-holds t c = (refl, ran-none _ _ _ _ (c .before .before .before .expect2 .ensures .fit))
+  pub at-requires : Here lts.Need-at-requires
+  at-requires c κs = entry-if1-left c .pre .1
 
-pub expr-bp-requires : (t : ℕ) → lts.Need-expr-bp-requires (calls t) (type-spec-at t) type-spec.Post Inv-loop μ-loop
-expr-bp-requires t c κs = (omega (arith, c .before .before .before .before .before .before .before .before .before .before .before .before .before .before .before .before .before .before .before .before .before .before .before .before .before .before .before .before .before .before .before .before .before .before .before .before .before .before .before .pre .0, c .before .before .before .before .before .before .before .before .before .before .before .before .before .before .before .before .before .before .before .before .before .before .before .before .before .before .before .before .before .before .before .before .before .before .before .if1 .left), (c .before .loop .inv .1 .3, search needs))
+  pub must-requires : Here lts.Need-must-requires
+  must-requires c κs = entry-if1-left (c .before .before .before) .pre .1
 
-pub at-requires-2 : (t : ℕ) → lts.Need-at-requires-2 (calls t) (type-spec-at t) type-spec.Post Inv-loop μ-loop
-at-requires-2 t c κs = c .before .before .before .expr-bp .ensures .fit
+  pub start-requires : Here lts.Need-start-requires
+  start-requires c κs = c .before .before .before .must .ensures .fit
 
-pub bump-any-requires-2 : (t : ℕ) → lts.Need-bump-any-requires-2 (calls t) (type-spec-at t) type-spec.Post Inv-loop μ-loop
-bump-any-requires-2 t c κs = c .before .before .before .before .before .before .expr-bp .ensures .fit
+  pub bump-any-requires : Here lts.Need-bump-any-requires
+  bump-any-requires c κs = c .before .before .before .before .start .ensures .fit
 
-pub complete-requires : (t : ℕ) → lts.Need-complete-requires (calls t) (type-spec-at t) type-spec.Post Inv-loop μ-loop
-complete-requires t c κs = c .before .before .before .bump-any2 .ensures .fit
+  pub expect-requires : Here lts.Need-expect-requires
+  expect-requires c κs = c .before .before .before .bump-any .ensures .fit
 
-pub same-length-2 : (t : ℕ) → lts.Need-same-length-2 (calls t) (type-spec-at t) type-spec.Post Inv-loop μ-loop
-same-length-2 t c = c .before .before .before .complete .kept .1 .0 ∙ c .before .before .before .before .before .before .before .bump-any2 .kept .1 .1 .1 .0 ∙ c .before .before .before .before .before .before .before .before .before .before .before .before .before .before .expr-bp .kept .1 .1 .0 ∙ c .before .before .before .before .before .before .before .before .before .before .before .before .before .before .before .before .loop .inv .0 ∙ c .before .before .before .before .before .before .before .before .before .before .before .before .before .before .before .before .before .before .before .before .expect2 .kept .1 .1 .1 .0 ∙ c .before .before .before .before .before .before .before .before .before .before .before .before .before .before .before .before .before .before .before .before .before .before .before .before .type-spec .kept .1 .1 .0 ∙ c .before .before .before .before .before .before .before .before .before .before .before .before .before .before .before .before .before .before .before .before .before .before .before .before .before .before .before .before .array-base .kept .1 .1 .0 ∙ c .before .before .before .before .before .before .before .before .before .before .before .before .before .before .before .before .before .before .before .before .before .before .before .before .before .before .before .before .before .before .before .before .before .expect .kept .1 .1 .1 .0 ∙ c .before .before .before .before .before .before .before .before .before .before .before .before .before .before .before .before .before .before .before .before .before .before .before .before .before .before .before .before .before .before .before .before .before .before .before .before .before .bump-any .kept .1 .1 .1 .0 ∙ c .before .before .before .before .before .before .before .before .before .before .before .before .before .before .before .before .before .before .before .before .before .before .before .before .before .before .before .before .before .before .before .before .before .before .before .before .before .before .before .before .before .before .start .kept .1 .0 ∙ c .before .before .before .before .before .before .before .before .before .before .before .before .before .before .before .before .before .before .before .before .before .before .before .before .before .before .before .before .before .before .before .before .before .before .before .before .before .before .before .before .before .before .before .before .before .before .must .kept .1 .1 .1 .0
+  pub array-base-requires : Here lts.Need-array-base-requires
+  array-base-requires c κs = c .before .before .before .before .expect .ensures .fit
 
-pub returns-2 : (t : ℕ) → lts.Need-returns-2 (calls t) (type-spec-at t) type-spec.Post Inv-loop μ-loop
-unfolding E.typeSpec E.arrayTypeSpec E.arrayTypeSpecRound
-returns-2 t c = typeSpec-deeper _ _ _ _ (c .before .before .before .before .before .before .before .before .before .before .before .before .before .before .before .before .before .before .before .before .before .before .before .before .before .before .before .before .before .before .before .before .before .before .before .before .before .before .before .before .before .before .before .before .before .before .before .before .before .before .if1 .left) (see _ _ _ _ (c .before .before .before .before .before .before .before .before .before .before .before .before .before .before .before .before .before .before .before .before .before .before .before .before .before .before .before .before .before .before .before .before .before .before .before .before .before .before .before .before .before .before .before .before .before .before .before .before .before .at .ensures) (rw (c .before .before .before .before .before .before .before .before .before .before .before .before .before .before .before .before .before .before .before .before .before .before .before .before .before .before .before .before .before .before .before .before .before .before .before .before .before .before .before .before .before .before .before .before .before .before .before .before .if2 .taken) (then _ _ _ _ (c .before .before .before .before .before .before .before .before .before .before .before .before .before .before .before .before .before .before .before .before .before .before .before .before .before .before .before .before .before .before .before .before .before .before .before .before .before .before .before .before .before .before .before .before .before .before .must .ensures) (step _ _ _ _ (c .before .before .before .before .before .before .before .before .before .before .before .before .before .before .before .before .before .before .before .before .before .before .before .before .before .before .before .before .before .before .before .before .before .before .before .before .before .before .before .before .before .before .start .ensures) (then _ _ _ _ (c .before .before .before .before .before .before .before .before .before .before .before .before .before .before .before .before .before .before .before .before .before .before .before .before .before .before .before .before .before .before .before .before .before .before .before .before .before .bump-any .ensures) (then _ _ _ _ (c .before .before .before .before .before .before .before .before .before .before .before .before .before .before .before .before .before .before .before .before .before .before .before .before .before .before .before .before .before .before .before .before .before .expect .ensures) (then _ _ _ _ (c .before .before .before .before .before .before .before .before .before .before .before .before .before .before .before .before .before .before .before .before .before .before .before .before .before .before .before .before .array-base .ensures) (then _ _ _ _ (c .before .before .before .before .before .before .before .before .before .before .before .before .before .before .before .before .before .before .before .before .before .before .before .before .type-spec .ensures) (then _ _ _ _ (c .before .before .before .before .before .before .before .before .before .before .before .before .before .before .before .before .before .before .before .before .expect2 .ensures) (then _ _ _ _ (ran-done _ _ _ _ _ _ _ _ (c .before .before .before .before .before .before .before .before .before .before .before .before .before .before .before .before .loop .inv .1) (then _ _ _ _ (c .before .before .before .before .before .before .before .before .before .before .before .before .before .before .expr-bp .ensures) (see _ _ _ _ (c .before .before .before .before .before .before .before .before .before .before .at2 .ensures) (rw (c .before .before .before .before .before .before .before .before .before .if3 .taken) (then _ _ _ _ (c .before .before .before .before .before .before .before .bump-any2 .ensures) (ends _ _ _ (c .before .before .before .before .before .before .before .bump-any2 .ensures .fit))))))) (step _ _ _ _ (c .before .before .before .complete .ensures) (ends _ _ _ (c .before .before .before .complete .ensures .fit)))))))))))))
+  pub type-spec-requires : Here lts.Need-type-spec-requires
+  type-spec-requires c κs =
+      let array-base = c .before .before .before in
+      let if1 = array-base .before .before .before .before .before .before .before .before .before .before .before .before .before
+      .before .before .before .before .before .before .before .before .before in
+      (omega (arith, entry-type-spec-arg c .pre .0, if1 .if1 .left), array-base .array-base .ensures .fit)
 
-pub expect-requires-3 : (t : ℕ) → lts.Need-expect-requires-3 (calls t) (type-spec-at t) type-spec.Post Inv-loop μ-loop
-expect-requires-3 t c κs = c .before .before .before .before .before .before .expr-bp .ensures .fit
+  pub expect-requires-2 : Here lts.Need-expect-requires-2
+  expect-requires-2 c κs = c .before .before .before .type-spec .ensures .fit
 
-pub is-refused-requires : (t : ℕ) → lts.Need-is-refused-requires (calls t) (type-spec-at t) type-spec.Post Inv-loop μ-loop
-is-refused-requires t c κs = search needs
+  pub loop-holds : Here lts.Need-loop-holds
+  loop-holds c = (refl, ran-none _ _ _ _ (c .before .before .before .expect2 .ensures .fit))
 
-pub complete-requires-2 : (t : ℕ) → lts.Need-complete-requires-2 (calls t) (type-spec-at t) type-spec.Post Inv-loop μ-loop
-complete-requires-2 t c κs = c .before .before .before .before .before .before .expect3 .ensures .fit
+  pub expr-bp-requires : Here lts.Need-expr-bp-requires
+  expr-bp-requires c κs =
+      let loop = c .before in
+      let type-spec = loop .before .before .before .before .before .before .before .before in
+      let if1 = type-spec .before .before .before .before .before .before .before .before .before .before .before .before .before
+      .before .before .before .before .before .before .before .before .before .before .before .before .before in
+      (omega (arith, entry-type-spec type-spec .pre .0, if1 .if1 .left), (loop .loop .inv .1 .3, search needs))
 
-pub same-length-3 : (t : ℕ) → lts.Need-same-length-3 (calls t) (type-spec-at t) type-spec.Post Inv-loop μ-loop
-same-length-3 t c = c .before .before .before .complete2 .kept .1 .0 ∙ c .before .before .before .before .before .before .before .before .before .before .expect3 .kept .1 .1 .1 .0 ∙ c .before .before .before .before .before .before .before .before .before .before .before .before .before .before .before .before .before .expr-bp .kept .1 .1 .0 ∙ c .before .before .before .before .before .before .before .before .before .before .before .before .before .before .before .before .before .before .before .loop .inv .0 ∙ c .before .before .before .before .before .before .before .before .before .before .before .before .before .before .before .before .before .before .before .before .before .before .before .expect2 .kept .1 .1 .1 .0 ∙ c .before .before .before .before .before .before .before .before .before .before .before .before .before .before .before .before .before .before .before .before .before .before .before .before .before .before .before .type-spec .kept .1 .1 .0 ∙ c .before .before .before .before .before .before .before .before .before .before .before .before .before .before .before .before .before .before .before .before .before .before .before .before .before .before .before .before .before .before .before .array-base .kept .1 .1 .0 ∙ c .before .before .before .before .before .before .before .before .before .before .before .before .before .before .before .before .before .before .before .before .before .before .before .before .before .before .before .before .before .before .before .before .before .before .before .before .expect .kept .1 .1 .1 .0 ∙ c .before .before .before .before .before .before .before .before .before .before .before .before .before .before .before .before .before .before .before .before .before .before .before .before .before .before .before .before .before .before .before .before .before .before .before .before .before .before .before .before .bump-any .kept .1 .1 .1 .0 ∙ c .before .before .before .before .before .before .before .before .before .before .before .before .before .before .before .before .before .before .before .before .before .before .before .before .before .before .before .before .before .before .before .before .before .before .before .before .before .before .before .before .before .before .before .before .before .start .kept .1 .0 ∙ c .before .before .before .before .before .before .before .before .before .before .before .before .before .before .before .before .before .before .before .before .before .before .before .before .before .before .before .before .before .before .before .before .before .before .before .before .before .before .before .before .before .before .before .before .before .before .before .before .before .must .kept .1 .1 .1 .0
+  pub at-requires-2 : Here lts.Need-at-requires-2
+  at-requires-2 c κs = c .before .before .before .expr-bp .ensures .fit
 
-pub returns-3 : (t : ℕ) → lts.Need-returns-3 (calls t) (type-spec-at t) type-spec.Post Inv-loop μ-loop
-unfolding E.typeSpec E.arrayTypeSpec E.arrayTypeSpecRound
-returns-3 t c = typeSpec-deeper _ _ _ _ (c .before .before .before .before .before .before .before .before .before .before .before .before .before .before .before .before .before .before .before .before .before .before .before .before .before .before .before .before .before .before .before .before .before .before .before .before .before .before .before .before .before .before .before .before .before .before .before .before .before .before .before .before .before .if1 .left) (see _ _ _ _ (c .before .before .before .before .before .before .before .before .before .before .before .before .before .before .before .before .before .before .before .before .before .before .before .before .before .before .before .before .before .before .before .before .before .before .before .before .before .before .before .before .before .before .before .before .before .before .before .before .before .before .before .before .at .ensures) (rw (c .before .before .before .before .before .before .before .before .before .before .before .before .before .before .before .before .before .before .before .before .before .before .before .before .before .before .before .before .before .before .before .before .before .before .before .before .before .before .before .before .before .before .before .before .before .before .before .before .before .before .before .if2 .taken) (then _ _ _ _ (c .before .before .before .before .before .before .before .before .before .before .before .before .before .before .before .before .before .before .before .before .before .before .before .before .before .before .before .before .before .before .before .before .before .before .before .before .before .before .before .before .before .before .before .before .before .before .before .before .before .must .ensures) (step _ _ _ _ (c .before .before .before .before .before .before .before .before .before .before .before .before .before .before .before .before .before .before .before .before .before .before .before .before .before .before .before .before .before .before .before .before .before .before .before .before .before .before .before .before .before .before .before .before .before .start .ensures) (then _ _ _ _ (c .before .before .before .before .before .before .before .before .before .before .before .before .before .before .before .before .before .before .before .before .before .before .before .before .before .before .before .before .before .before .before .before .before .before .before .before .before .before .before .before .bump-any .ensures) (then _ _ _ _ (c .before .before .before .before .before .before .before .before .before .before .before .before .before .before .before .before .before .before .before .before .before .before .before .before .before .before .before .before .before .before .before .before .before .before .before .before .expect .ensures) (then _ _ _ _ (c .before .before .before .before .before .before .before .before .before .before .before .before .before .before .before .before .before .before .before .before .before .before .before .before .before .before .before .before .before .before .before .array-base .ensures) (then _ _ _ _ (c .before .before .before .before .before .before .before .before .before .before .before .before .before .before .before .before .before .before .before .before .before .before .before .before .before .before .before .type-spec .ensures) (then _ _ _ _ (c .before .before .before .before .before .before .before .before .before .before .before .before .before .before .before .before .before .before .before .before .before .before .before .expect2 .ensures) (then _ _ _ _ (ran-done _ _ _ _ _ _ _ _ (c .before .before .before .before .before .before .before .before .before .before .before .before .before .before .before .before .before .before .before .loop .inv .1) (then _ _ _ _ (c .before .before .before .before .before .before .before .before .before .before .before .before .before .before .before .before .before .expr-bp .ensures) (see _ _ _ _ (c .before .before .before .before .before .before .before .before .before .before .before .before .before .at2 .ensures) (rw (c .before .before .before .before .before .before .before .before .before .before .before .before .if3 .left) (then _ _ _ _ (c .before .before .before .before .before .before .before .before .before .before .expect3 .ensures) (ask _ _ _ (c .before .before .before .before .before .before .is-refused .ensures) (rw (c .before .before .before .before .before .if4 .taken) (ends _ _ _ (c .before .before .before .before .before .before .before .before .before .before .expect3 .ensures .fit))))))))) (step _ _ _ _ (c .before .before .before .complete2 .ensures) (ends _ _ _ (c .before .before .before .complete2 .ensures .fit)))))))))))))
+  pub bump-any-requires-2 : Here lts.Need-bump-any-requires-2
+  bump-any-requires-2 c κs = c .before .before .before .before .before .before .expr-bp .ensures .fit
 
-pub loop-less : (t : ℕ) → lts.Need-loop-less (calls t) (type-spec-at t) type-spec.Post Inv-loop μ-loop
-loop-less t c = lt-of-le-of-lt (spent-does _ _ _ (c .before .before .before .before .before .expect3 .ensures)) (falls _ _ _ (exprBp-spends _ _ _ _ _) (omega (arith, left-asked (c .before .before .before .before .before .expect3 .result .p) (sym (c .before .is-refused .ensures) ∙ c .if4 .left), spent-does _ _ _ (c .before .before .before .before .before .expect3 .ensures), spent-does _ _ _ (c .before .before .before .before .before .before .before .before .before .before .before .before .expr-bp .ensures))) (c .before .before .before .before .before .before .before .before .before .before .before .before .expr-bp .ensures))
+  pub complete-requires : Here lts.Need-complete-requires
+  complete-requires c κs = c .before .before .before .bump-any2 .ensures .fit
 
-pub loop-again : (t : ℕ) → lts.Need-loop-again (calls t) (type-spec-at t) type-spec.Post Inv-loop μ-loop
-unfolding E.typeSpec E.arrayTypeSpec E.arrayTypeSpecRound
-loop-again t c = (c .before .before .before .before .before .expect3 .kept .1 .1 .1 .0 ∙ c .before .before .before .before .before .before .before .before .before .before .before .before .expr-bp .kept .1 .1 .0 ∙ c .before .before .before .before .before .before .before .before .before .before .before .before .before .before .loop .inv .0, ran-more _ _ _ _ _ _ _ _ (c .before .before .before .before .before .before .before .before .before .before .before .before .before .before .loop .inv .1) (then _ _ _ _ (c .before .before .before .before .before .before .before .before .before .before .before .before .expr-bp .ensures) (see _ _ _ _ (c .before .before .before .before .before .before .before .before .at2 .ensures) (rw (c .before .before .before .before .before .before .before .if3 .left) (then _ _ _ _ (c .before .before .before .before .before .expect3 .ensures) (ask _ _ _ (c .before .is-refused .ensures) (rw (c .if4 .left) (ends _ _ _ (c .before .before .before .before .before .expect3 .ensures .fit)))))))) (lt-of-le-of-lt (spent-does _ _ _ (c .before .before .before .before .before .expect3 .ensures)) (falls _ _ _ (exprBp-spends _ _ _ _ _) (omega (arith, left-asked (c .before .before .before .before .before .expect3 .result .p) (sym (c .before .is-refused .ensures) ∙ c .if4 .left), spent-does _ _ _ (c .before .before .before .before .before .expect3 .ensures), spent-does _ _ _ (c .before .before .before .before .before .before .before .before .before .before .before .before .expr-bp .ensures))) (c .before .before .before .before .before .before .before .before .before .before .before .before .expr-bp .ensures))))
+  pub same-length-2 : Here lts.Need-same-length-2
+  same-length-2 c =
+      let complete = c .before .before .before in
+      let bump-any2 = complete .before .before .before .before in
+      let expr-bp = bump-any2 .before .before .before .before .before .before .before in
+      complete .complete .kept .1 .0 ∙ bump-any2 .bump-any2 .kept .1 .1 .1 .0 ∙ kept-expr-bp expr-bp
 
-pub scal-requires : (t : ℕ) → lts.Need-scal-requires (calls t) (type-spec-at t) type-spec.Post Inv-loop μ-loop
-scal-requires t c κs = (omega (arith, c .before .before .before .before .before .before .before .pre .0, c .before .before .before .if1 .left), c .before .before .before .before .before .before .before .pre .1)
+  pub returns-2 : Here lts.Need-returns-2
+  unfolding E.typeSpec E.arrayTypeSpec E.arrayTypeSpecRound
+  returns-2 c =
+      let complete = c .before .before .before in
+      let bump-any2 = complete .before .before .before .before in
+      let if3 = bump-any2 .before .before in
+      let at2 = if3 .before in
+      let expr-bp = at2 .before .before .before .before in
+      let loop = expr-bp .before .before in
+      let expect2 = loop .before .before .before .before in
+      let type-spec = expect2 .before .before .before .before in
+      let array-base = type-spec .before .before .before .before in
+      let expect = array-base .before .before .before .before .before in
+      let bump-any = expect .before .before .before .before in
+      let start = bump-any .before .before .before .before .before in
+      let must = start .before .before .before .before in
+      let if2 = must .before .before in
+      let at = if2 .before in
+      let if1 = at .before in
+      typeSpec-deeper _ _ _ _ (if1 .if1 .left)
+      (see _ _ _ _ (at .at .ensures)
+      (rw (if2 .if2 .taken)
+      (then _ _ _ _ (must .must .ensures)
+      (step _ _ _ _ (start .start .ensures)
+      (then _ _ _ _ (bump-any .bump-any .ensures)
+      (then _ _ _ _ (expect .expect .ensures)
+      (then _ _ _ _ (array-base .array-base .ensures)
+      (then _ _ _ _ (type-spec .type-spec .ensures)
+      (then _ _ _ _ (expect2 .expect2 .ensures)
+      (then _ _ _ _ (ran-done _ _ _ _ _ _ _ _ (loop .loop .inv .1)
+      (then _ _ _ _ (expr-bp .expr-bp .ensures)
+      (see _ _ _ _ (at2 .at2 .ensures)
+      (rw (if3 .if3 .taken)
+      (then _ _ _ _ (bump-any2 .bump-any2 .ensures)
+      (ends _ _ _ (bump-any2 .bump-any2 .ensures .fit)))))))
+      (step _ _ _ _ (complete .complete .ensures)
+      (ends _ _ _ (complete .complete .ensures .fit)))))))))))))
 
-pub same-length-4 : (t : ℕ) → lts.Need-same-length-4 (calls t) (type-spec-at t) type-spec.Post Inv-loop μ-loop
-same-length-4 t c = c .before .before .scal .kept .1 .1 .0
+  pub expect-requires-3 : Here lts.Need-expect-requires-3
+  expect-requires-3 c κs = c .before .before .before .before .before .before .expr-bp .ensures .fit
 
-pub returns-4 : (t : ℕ) → lts.Need-returns-4 (calls t) (type-spec-at t) type-spec.Post Inv-loop μ-loop
-unfolding E.typeSpec E.arrayTypeSpec E.arrayTypeSpecRound
-returns-4 t c = typeSpec-deeper _ _ _ _ (c .before .before .before .before .before .before .if1 .left) (see _ _ _ _ (c .before .before .before .before .before .at .ensures) (rw (c .before .before .before .before .if2 .left) (c .before .before .scal .ensures)))
+  pub is-refused-requires : Here lts.Need-is-refused-requires
+  is-refused-requires c κs = search needs
+
+  pub complete-requires-2 : Here lts.Need-complete-requires-2
+  complete-requires-2 c κs = c .before .before .before .before .before .before .expect3 .ensures .fit
+
+  pub same-length-3 : Here lts.Need-same-length-3
+  same-length-3 c =
+      let complete2 = c .before .before .before in
+      let expect3 = complete2 .before .before .before .before .before .before .before in
+      let expr-bp = expect3 .before .before .before .before .before .before .before in
+      complete2 .complete2 .kept .1 .0 ∙ expect3 .expect3 .kept .1 .1 .1 .0 ∙ kept-expr-bp expr-bp
+
+  pub returns-3 : Here lts.Need-returns-3
+  unfolding E.typeSpec E.arrayTypeSpec E.arrayTypeSpecRound
+  returns-3 c =
+      let complete2 = c .before .before .before in
+      let if4 = complete2 .before .before in
+      let is-refused = if4 .before in
+      let expect3 = is-refused .before .before .before .before in
+      let if3 = expect3 .before .before in
+      let at2 = if3 .before in
+      let expr-bp = at2 .before .before .before .before in
+      let loop = expr-bp .before .before in
+      let expect2 = loop .before .before .before .before in
+      let type-spec = expect2 .before .before .before .before in
+      let array-base = type-spec .before .before .before .before in
+      let expect = array-base .before .before .before .before .before in
+      let bump-any = expect .before .before .before .before in
+      let start = bump-any .before .before .before .before .before in
+      let must = start .before .before .before .before in
+      let if2 = must .before .before in
+      let at = if2 .before in
+      let if1 = at .before in
+      typeSpec-deeper _ _ _ _ (if1 .if1 .left)
+      (see _ _ _ _ (at .at .ensures)
+      (rw (if2 .if2 .taken)
+      (then _ _ _ _ (must .must .ensures)
+      (step _ _ _ _ (start .start .ensures)
+      (then _ _ _ _ (bump-any .bump-any .ensures)
+      (then _ _ _ _ (expect .expect .ensures)
+      (then _ _ _ _ (array-base .array-base .ensures)
+      (then _ _ _ _ (type-spec .type-spec .ensures)
+      (then _ _ _ _ (expect2 .expect2 .ensures)
+      (then _ _ _ _ (ran-done _ _ _ _ _ _ _ _ (loop .loop .inv .1)
+      (then _ _ _ _ (expr-bp .expr-bp .ensures)
+      (see _ _ _ _ (at2 .at2 .ensures)
+      (rw (if3 .if3 .left)
+      (then _ _ _ _ (expect3 .expect3 .ensures)
+      (ask _ _ _ (is-refused .is-refused .ensures)
+      (rw (if4 .if4 .taken)
+      (ends _ _ _ (expect3 .expect3 .ensures .fit)))))))))
+      (step _ _ _ _ (complete2 .complete2 .ensures)
+      (ends _ _ _ (complete2 .complete2 .ensures .fit)))))))))))))
+
+  pub loop-less : Here lts.Need-loop-less
+  loop-less c =
+      let is-refused = c .before in
+      let expect3 = is-refused .before .before .before .before in
+      let expr-bp = expect3 .before .before .before .before .before .before .before in
+      lt-of-le-of-lt (spent-does _ _ _ (expect3 .expect3 .ensures)) (falls _ _ _ (exprBp-spends _ _ _ _ _) (omega (
+        arith,
+        left-asked (expect3 .expect3 .result .p) (sym (is-refused .is-refused .ensures) ∙ c .if4 .left),
+        spent-does _ _ _
+            (expect3 .expect3 .ensures),
+        spent-does _ _ _ (expr-bp .expr-bp .ensures),
+      )) (expr-bp .expr-bp .ensures))
+
+  pub loop-again : Here lts.Need-loop-again
+  unfolding E.typeSpec E.arrayTypeSpec E.arrayTypeSpecRound
+  loop-again c =
+      let is-refused = c .before in
+      let expect3 = is-refused .before .before .before .before in
+      let if3 = expect3 .before .before in
+      let at2 = if3 .before in
+      let expr-bp = at2 .before .before .before .before in
+      let loop = expr-bp .before .before in (
+        expect3 .expect3 .kept .1 .1 .1 .0 ∙ expr-bp .expr-bp .kept .1 .1 .0 ∙ loop .loop .inv .0,
+        ran-more _ _ _ _ _ _ _ _ (loop
+            .loop .inv .1)
+            (then _ _ _ _ (expr-bp .expr-bp .ensures)
+            (see _ _ _ _ (at2 .at2 .ensures)
+            (rw (if3 .if3 .left)
+            (then _ _ _ _ (expect3 .expect3 .ensures)
+            (ask _ _ _ (is-refused .is-refused .ensures)
+            (rw (c .if4 .left)
+            (ends _ _ _ (expect3 .expect3 .ensures .fit))))))))
+            (lt-of-le-of-lt (spent-does _ _ _ (expect3 .expect3 .ensures)) (falls _ _ _ (exprBp-spends _ _ _ _ _) (omega (
+              arith,
+              left-asked (expect3 .expect3 .result .p) (sym (is-refused .is-refused .ensures) ∙ c .if4 .left),
+              spent-does _ _ _
+                  (expect3 .expect3 .ensures),
+              spent-does _ _ _ (expr-bp .expr-bp .ensures),
+            )) (expr-bp .expr-bp .ensures))),
+      )
+
+  pub scal-requires : Here lts.Need-scal-requires
+  scal-requires c κs = (
+    omega (arith, entry-if1-left (c .before .before .before) .pre .0, c .before .before .before .if1 .left),
+    entry-if1-left (c .before .before .before) .pre .1,
+  )
+
+  pub same-length-4 : Here lts.Need-same-length-4
+  same-length-4 c = c .before .before .scal .kept .1 .1 .0
+
+  pub returns-4 : Here lts.Need-returns-4
+  unfolding E.typeSpec E.arrayTypeSpec E.arrayTypeSpecRound
+  returns-4 c =
+      let scal = c .before .before in
+      let if2 = scal .before .before in
+      let at = if2 .before in
+      let if1 = at .before in
+      typeSpec-deeper _ _ _ _ (if1 .if1 .left)
+      (see _ _ _ _ (at .at .ensures)
+      (rw (if2 .if2 .left)
+      (scal .scal .ensures)))

@@ -1,6 +1,7 @@
+-- Written by tools/proofs from the code, the definitions and hints.py: docs/PRODUCTIONS.md says how to change it.
 -- `width`.
 use borrow.Author.Needs.{needs}
-use Rattle.runtime.proofs.Laws.{then, step, ask, ends}
+use Rattle.runtime.proofs.Laws.{then, step, ends}
 use native.Mathlib.Omega.{arith}
 use mathlib.Core.Path.{_∙_}
 use Prim.Native.Nat.{ℕ}
@@ -13,37 +14,88 @@ use Rattle.runtime.proofs.parser.Parser.must.Reads as must-reads
 use Rattle.runtime.proofs.parser.Parser.start.Reads as start-reads
 use Rattle.cycle.proofs.expr_bp.Reads as expr-bp
 use Rattle.cycle.proofs.width.Reads as width
-use Rattle.cycle.proofs.+args+arr+atom+blk+body+bx+call+cast+cplx+ctl+dcal+decl+def+els+expr_bp+fors+gate+gdef+gph+ids+idx+if_stmt+lhs+list+meas+mods+opt+par+post+qarg+rest+ret+scal+set+sig+stmt+sts+subs+sw+tup+type_spec+width.Lts-width as lts
-use Rattle.cycle.proofs.+args+arr+atom+blk+body+bx+call+cast+cplx+ctl+dcal+decl+def+els+expr_bp+fors+gate+gdef+gph+ids+idx+if_stmt+lhs+list+meas+mods+opt+par+post+qarg+rest+ret+scal+set+sig+stmt+sts+subs+sw+tup+type_spec+width.Proof.Frame.{expr-bp-below, width-at}
+use Rattle.cycle.proofs.+args+arr+atom+blk+body+bx+call+cast+cplx+ctl+dcal+decl+def+els+expr_bp+fors+gate+gdef+gph+ids+idx+if_stmt+lhs+list+meas+mods+opt+par+post+qarg+rest+ret+scal+set+sig+stmt+sts+subs+sw+tup+type_spec+width as cycle
+use cycle.Lts-width as lts
+use cycle.Proof.Frame.{expr-bp-below, width-at}
+use Rattle.cycle.proofs.width.Kinds as kinds
+use borrow.Fn.Kinds.{In, Out}
 
 -- what the callees ask and give
 abbrev pub calls : ℕ → lts.Claims
-calls t = (must-reads.Asked, must-reads.Learnt, start-reads.Asked, start-reads.Learnt, bump-reads.Asked, bump-reads.Learnt, literal-designator-reads.Asked, literal-designator-reads.Learnt, expr-bp-below t, expr-bp.Post, expect-reads.Asked, expect-reads.Learnt, complete-reads.Asked, complete-reads.Learnt)
+calls t = (
+  must-reads.Asked,
+  must-reads.Learnt,
+  start-reads.Asked,
+  start-reads.Learnt,
+  bump-reads.Asked,
+  bump-reads.Learnt,
+  literal-designator-reads.Asked,
+  literal-designator-reads.Learnt,
+  expr-bp-below t,
+  expr-bp.Post,
+  expect-reads.Asked,
+  expect-reads.Learnt,
+  complete-reads.Asked,
+  complete-reads.Learnt,
+)
 
-pub must-requires : (t : ℕ) → lts.Need-must-requires (calls t) (width-at t) width.Post
-must-requires t c κs = c .before .before .before .before .pre .1
+module _ (t : ℕ) where
+  abbrev Here : (lts.Claims → In 3 kinds.ps → Out 3 kinds.ps kinds.r → Type 0) → Type 0
+  Here X = X (calls t) (width-at t) width.Post
 
-pub start-requires : (t : ℕ) → lts.Need-start-requires (calls t) (width-at t) width.Post
-start-requires t c κs = c .before .before .before .must .ensures .fit
+  pub must-requires : Here lts.Need-must-requires
+  must-requires c κs = c .before .before .before .before .pre .1
 
-pub bump-requires : (t : ℕ) → lts.Need-bump-requires (calls t) (width-at t) width.Post
-bump-requires t c κs = c .before .before .before .before .start .ensures .fit
+  pub start-requires : Here lts.Need-start-requires
+  start-requires c κs = c .before .before .before .must .ensures .fit
 
-pub literal-designator-requires : (t : ℕ) → lts.Need-literal-designator-requires (calls t) (width-at t) width.Post
-literal-designator-requires t c κs = c .before .before .before .bump .ensures .fit
+  pub bump-requires : Here lts.Need-bump-requires
+  bump-requires c κs = c .before .before .before .before .start .ensures .fit
 
-pub expr-bp-requires : (t : ℕ) → lts.Need-expr-bp-requires (calls t) (width-at t) width.Post
-expr-bp-requires t c κs = (omega (arith, c .before .before .before .before .before .before .before .before .before .before .before .before .before .before .before .before .before .before .before .before .before .pre .0), (c .before .before .before .literal-designator .ensures .fit, search needs))
+  pub literal-designator-requires : Here lts.Need-literal-designator-requires
+  literal-designator-requires c κs = c .before .before .before .bump .ensures .fit
 
-pub expect-requires : (t : ℕ) → lts.Need-expect-requires (calls t) (width-at t) width.Post
-expect-requires t c κs = c .before .before .before .before .expr-bp .ensures .fit
+  pub expr-bp-requires : Here lts.Need-expr-bp-requires
+  expr-bp-requires c κs =
+      let literal-designator = c .before .before .before in
+      let entry = literal-designator .before .before .before .before .before .before .before .before .before .before .before
+      .before .before .before .before .before .before .before in
+      (omega (arith, entry .pre .0), (literal-designator .literal-designator .ensures .fit, search needs))
 
-pub complete-requires : (t : ℕ) → lts.Need-complete-requires (calls t) (width-at t) width.Post
-complete-requires t c κs = c .before .before .before .before .expect .ensures .fit
+  pub expect-requires : Here lts.Need-expect-requires
+  expect-requires c κs = c .before .before .before .before .expr-bp .ensures .fit
 
-pub same-length : (t : ℕ) → lts.Need-same-length (calls t) (width-at t) width.Post
-same-length t c = c .before .before .before .complete .kept .1 .0 ∙ c .before .before .before .before .before .before .before .before .expect .kept .1 .1 .1 .0 ∙ c .before .before .before .before .before .before .before .before .before .before .before .before .before .expr-bp .kept .1 .1 .0 ∙ c .before .before .before .before .before .before .before .before .before .before .before .before .before .before .before .before .before .literal-designator .kept .1 .1 .0 ∙ c .before .before .before .before .before .before .before .before .before .before .before .before .before .before .before .before .before .before .before .before .before .bump .kept .1 .1 .1 .0 ∙ c .before .before .before .before .before .before .before .before .before .before .before .before .before .before .before .before .before .before .before .before .before .before .before .before .before .before .start .kept .1 .0 ∙ c .before .before .before .before .before .before .before .before .before .before .before .before .before .before .before .before .before .before .before .before .before .before .before .before .before .before .before .before .before .before .must .kept .1 .1 .1 .0
+  pub complete-requires : Here lts.Need-complete-requires
+  complete-requires c κs = c .before .before .before .before .expect .ensures .fit
 
-pub returns : (t : ℕ) → lts.Need-returns (calls t) (width-at t) width.Post
-unfolding E.designator
-returns t c = then _ _ _ _ (c .before .before .before .before .before .before .before .before .before .before .before .before .before .before .before .before .before .before .before .before .before .before .before .before .before .before .before .before .before .before .must .ensures) (step _ _ _ _ (c .before .before .before .before .before .before .before .before .before .before .before .before .before .before .before .before .before .before .before .before .before .before .before .before .before .before .start .ensures) (then _ _ _ _ (c .before .before .before .before .before .before .before .before .before .before .before .before .before .before .before .before .before .before .before .before .before .bump .ensures) (then _ _ _ _ (c .before .before .before .before .before .before .before .before .before .before .before .before .before .before .before .before .before .literal-designator .ensures) (then _ _ _ _ (c .before .before .before .before .before .before .before .before .before .before .before .before .before .expr-bp .ensures) (then _ _ _ _ (c .before .before .before .before .before .before .before .before .expect .ensures) (step _ _ _ _ (c .before .before .before .complete .ensures) (ends _ _ _ (c .before .before .before .complete .ensures .fit))))))))
+  pub same-length : Here lts.Need-same-length
+  same-length c =
+      let complete = c .before .before .before in
+      let expect = complete .before .before .before .before .before in
+      let expr-bp = expect .before .before .before .before .before in
+      let literal-designator = expr-bp .before .before .before .before in
+      let bump = literal-designator .before .before .before .before in
+      let start = bump .before .before .before .before .before in
+      let must = start .before .before .before .before in
+      complete .complete .kept .1 .0 ∙ expect .expect .kept .1 .1 .1 .0 ∙ expr-bp .expr-bp .kept .1 .1 .0 ∙ literal-designator
+      .literal-designator .kept .1 .1 .0 ∙ bump .bump .kept .1 .1 .1 .0 ∙ start .start .kept .1 .0 ∙ must .must .kept .1 .1 .1
+      .0
+
+  pub returns : Here lts.Need-returns
+  unfolding E.designator
+  returns c =
+      let complete = c .before .before .before in
+      let expect = complete .before .before .before .before .before in
+      let expr-bp = expect .before .before .before .before .before in
+      let literal-designator = expr-bp .before .before .before .before in
+      let bump = literal-designator .before .before .before .before in
+      let start = bump .before .before .before .before .before in
+      let must = start .before .before .before .before in
+      then _ _ _ _ (must .must .ensures)
+      (step _ _ _ _ (start .start .ensures)
+      (then _ _ _ _ (bump .bump .ensures)
+      (then _ _ _ _ (literal-designator .literal-designator .ensures)
+      (then _ _ _ _ (expr-bp .expr-bp .ensures)
+      (then _ _ _ _ (expect .expect .ensures)
+      (step _ _ _ _ (complete .complete .ensures)
+      (ends _ _ _ (complete .complete .ensures .fit))))))))

@@ -1,8 +1,8 @@
+-- Written by tools/proofs from the code, the definitions and hints.py: docs/PRODUCTIONS.md says how to change it.
 -- `entry::source_file` meets its contract. Assumes nothing.
 use Rattle.runtime.proofs.Laws.{then, step, ends}
 use mathlib.Core.Path.{_∙_}
-use Rattle.grammar.specs.Entry as S
-use borrow.Author.Needs.{needs}
+use Rattle.grammar.specs.Entry as T
 use Rattle.cycle.proofs.entry.source_file.Statement.{statement}
 use Rattle.cycle.proofs.entry.source_file.Tie as tie
 
@@ -16,13 +16,22 @@ complete-requires : tie.Need-complete-requires
 complete-requires c κs = c .before .before .before .source-file-contents .ensures .fit
 
 same-length : tie.Need-same-length
-same-length c = c .before .before .before .complete .kept .1 .0 ∙ c .before .before .before .before .before .before .before .source-file-contents .kept .1 .1 .0 ∙ c .before .before .before .before .before .before .before .before .before .before .before .before .start .kept .1 .0
+same-length c =
+    let complete = c .before .before .before in
+    let source-file-contents = complete .before .before .before .before in
+    let start = source-file-contents .before .before .before .before .before in
+    complete .complete .kept .1 .0 ∙ source-file-contents .source-file-contents .kept .1 .1 .0 ∙ start .start .kept .1 .0
 
 returns : tie.Need-returns
-unfolding S.sourceFile
-returns c = step _ _ _ _ (c .before .before .before .before .before .before .before .before .before .before .before .before .start .ensures) (then _ _ _ _ (c .before .before .before .before .before .before .before .source-file-contents .ensures) (step _ _ _ _ (c .before .before .before .complete .ensures) (ends _ _ _ (c .before .before .before .complete .ensures .fit))))
+unfolding T.sourceFile
+returns c =
+    let complete = c .before .before .before in
+    let source-file-contents = complete .before .before .before .before in
+    let start = source-file-contents .before .before .before .before .before in
+    step _ _ _ _ (start .start .ensures)
+    (then _ _ _ _ (source-file-contents .source-file-contents .ensures)
+    (step _ _ _ _ (complete .complete .ensures)
+    (ends _ _ _ (complete .complete .ensures .fit))))
 
 pub source-file-spec : {M : Type 1} → statement M
-source-file-spec =
-    tie.close
-    (tie.spec start-requires source-file-contents-requires complete-requires same-length returns)
+source-file-spec = tie.close (tie.spec start-requires source-file-contents-requires complete-requires same-length returns)
