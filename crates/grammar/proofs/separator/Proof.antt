@@ -1,7 +1,7 @@
+-- Written by tools/proofs from the code, the definitions and hints.py: docs/PRODUCTIONS.md says how to change it.
 -- `separator` meets its contract. Assumes nothing.
 use Rattle.runtime.proofs.Laws.{then, step, peek, see, ends}
-use Rattle.grammar.specs.Grammar as S
-use borrow.Author.Needs.{needs}
+use Rattle.grammar.specs.Grammar as G
 use Rattle.grammar.proofs.separator.Statement.{statement}
 use Rattle.grammar.proofs.separator.Tie as tie
 
@@ -15,8 +15,15 @@ same-length : tie.Need-same-length
 same-length c = c .before .before .bump .kept .1 .1 .1 .0
 
 returns : tie.Need-returns
-unfolding S.separator
-returns c = see _ _ _ _ (c .before .before .before .before .before .at .ensures) (rw (c .before .before .before .before .if1 .taken) (then _ _ _ _ (c .before .before .bump .ensures) (ends _ _ _ (c .before .before .bump .ensures .fit))))
+unfolding G.separator
+returns c =
+    let bump = c .before .before in
+    let if1 = bump .before .before in
+    let at = if1 .before in
+    see _ _ _ _ (at .at .ensures)
+    (rw (if1 .if1 .taken)
+    (then _ _ _ _ (bump .bump .ensures)
+    (ends _ _ _ (bump .bump .ensures .fit))))
 
 at-ts-requires : tie.Need-at-ts-requires
 at-ts-requires c κs = c .before .before .before .before .before .pre
@@ -28,23 +35,32 @@ same-length-2 : tie.Need-same-length-2
 same-length-2 c = c .before .before .error .kept .1 .0
 
 returns-2 : tie.Need-returns-2
-unfolding S.separator
-returns-2 c = see _ _ _ _ (c .before .before .before .before .before .before .before .before .at .ensures) (rw (c .before .before .before .before .before .before .before .if1 .left) (peek _ _ _ _ _ (c .before .before .before .before .before .before .at-ts .ensures) (rw (c .before .before .before .before .if2 .taken) (step _ _ _ _ (c .before .before .error .ensures) (ends _ _ _ (c .before .before .error .ensures .fit))))))
+unfolding G.separator
+returns-2 c =
+    let error = c .before .before in
+    let if2 = error .before .before in
+    let at-ts = if2 .before .before in
+    let if1 = at-ts .before in
+    let at = if1 .before in
+    see _ _ _ _ (at .at .ensures)
+    (rw (if1 .if1 .left)
+    (peek _ _ _ _ _ (at-ts .at-ts .ensures)
+    (rw (if2 .if2 .taken)
+    (step _ _ _ _ (error .error .ensures)
+    (ends _ _ _ (error .error .ensures .fit))))))
 
 returns-3 : tie.Need-returns-3
-unfolding S.separator
-returns-3 c = see _ _ _ _ (c .before .before .before .before .at .ensures) (rw (c .before .before .before .if1 .left) (peek _ _ _ _ _ (c .before .before .at-ts .ensures) (rw (c .if2 .left) (ends _ _ _ (c .before .before .at-ts .ensures .fit)))))
+unfolding G.separator
+returns-3 c =
+    let at-ts = c .before .before in
+    let if1 = at-ts .before in
+    let at = if1 .before in
+    see _ _ _ _ (at .at .ensures)
+    (rw (if1 .if1 .left)
+    (peek _ _ _ _ _ (at-ts .at-ts .ensures)
+    (rw (c .if2 .left)
+    (ends _ _ _ (at-ts .at-ts .ensures .fit)))))
 
 pub separator-spec : {M : Type 1} → statement M
-separator-spec =
-    tie.close
-    (tie.spec
-    at-requires
-    bump-requires
-    same-length
-    returns
-    at-ts-requires
-    error-requires
-    same-length-2
-    returns-2
-    returns-3)
+separator-spec = tie.close (tie.spec at-requires bump-requires same-length returns at-ts-requires error-requires same-length-2
+    returns-2 returns-3)

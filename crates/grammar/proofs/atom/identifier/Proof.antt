@@ -1,8 +1,8 @@
+-- Written by tools/proofs from the code, the definitions and hints.py: docs/PRODUCTIONS.md says how to change it.
 -- `atom::identifier` meets its contract. Assumes nothing.
 use Rattle.runtime.proofs.Laws.{then, step, any}
 use mathlib.Core.Path.{_∙_}
-use Rattle.grammar.specs.Atom as S
-use borrow.Author.Needs.{needs}
+use Rattle.grammar.specs.Atom as A
 use Rattle.grammar.proofs.atom.identifier.Statement.{statement}
 use Rattle.grammar.proofs.atom.identifier.Tie as tie
 
@@ -16,12 +16,21 @@ complete-requires : tie.Need-complete-requires
 complete-requires c κs = c .before .before .before .before .expect .ensures .fit
 
 same-length : tie.Need-same-length
-same-length c = c .before .before .complete .kept .1 .0 ∙ c .before .before .before .before .before .before .before .expect .kept .1 .1 .1 .0 ∙ c .before .before .before .before .before .before .before .before .before .before .before .before .start .kept .1 .0
+same-length c =
+    let complete = c .before .before in
+    let expect = complete .before .before .before .before .before in
+    let start = expect .before .before .before .before .before in
+    complete .complete .kept .1 .0 ∙ expect .expect .kept .1 .1 .1 .0 ∙ start .start .kept .1 .0
 
 returns : tie.Need-returns
-unfolding S.identifier
-returns c = step _ _ _ _ (c .before .before .before .before .before .before .before .before .before .before .before .before .start .ensures) (then _ _ _ _ (c .before .before .before .before .before .before .before .expect .ensures) (any _ _ _ (c .before .before .complete .ensures)))
+unfolding A.identifier
+returns c =
+    let complete = c .before .before in
+    let expect = complete .before .before .before .before .before in
+    let start = expect .before .before .before .before .before in
+    step _ _ _ _ (start .start .ensures)
+    (then _ _ _ _ (expect .expect .ensures)
+    (any _ _ _ (complete .complete .ensures)))
 
 pub identifier-spec : {M : Type 1} → statement M
-identifier-spec =
-    tie.close (tie.spec start-requires expect-requires complete-requires same-length returns)
+identifier-spec = tie.close (tie.spec start-requires expect-requires complete-requires same-length returns)

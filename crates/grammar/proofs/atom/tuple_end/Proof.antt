@@ -1,7 +1,8 @@
+-- Written by tools/proofs from the code, the definitions and hints.py: docs/PRODUCTIONS.md says how to change it.
 -- `atom::tuple_end` meets its contract. Assumes nothing.
 use Rattle.runtime.proofs.Laws.{then, any}
 use mathlib.Core.Path.{sym, _∙_}
-use Rattle.grammar.specs.Atom as S
+use Rattle.grammar.specs.Atom as A
 use borrow.Author.Needs.{needs}
 use Rattle.grammar.proofs.atom.tuple_end.Statement.{statement}
 use Rattle.grammar.proofs.atom.tuple_end.Tie as tie
@@ -16,12 +17,20 @@ complete-requires : tie.Need-complete-requires
 complete-requires c κs = c .before .before .before .before .before .expect .ensures .fit
 
 same-length : tie.Need-same-length
-same-length c = c .before .before .complete .kept .1 .0 ∙ c .before .before .before .before .before .before .before .before .expect .kept .1 .1 .1 .0
+same-length c =
+    let complete = c .before .before in
+    let expect = complete .before .before .before .before .before .before in
+    complete .complete .kept .1 .0 ∙ expect .expect .kept .1 .1 .1 .0
 
 returns : tie.Need-returns
-unfolding S.tupleEnd
-returns c = then _ _ _ _ (c .before .before .before .before .before .before .before .before .expect .ensures) (rw (sym (c .before .before .before .tuple-kind .ensures)) (any _ _ _ (c .before .before .complete .ensures)))
+unfolding A.tupleEnd
+returns c =
+    let complete = c .before .before in
+    let tuple-kind = complete .before in
+    let expect = tuple-kind .before .before .before .before .before in
+    then _ _ _ _ (expect .expect .ensures)
+    (rw (sym (tuple-kind .tuple-kind .ensures))
+    (any _ _ _ (complete .complete .ensures)))
 
 pub tuple-end-spec : {M : Type 1} → statement M
-tuple-end-spec =
-    tie.close (tie.spec expect-requires tuple-kind-requires complete-requires same-length returns)
+tuple-end-spec = tie.close (tie.spec expect-requires tuple-kind-requires complete-requires same-length returns)

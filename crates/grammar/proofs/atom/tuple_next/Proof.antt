@@ -1,7 +1,7 @@
+-- Written by tools/proofs from the code, the definitions and hints.py: docs/PRODUCTIONS.md says how to change it.
 -- `atom::tuple_next` meets its contract. Assumes nothing.
 use Rattle.runtime.proofs.Laws.{then, see, ends}
-use Rattle.grammar.specs.Atom as S
-use borrow.Author.Needs.{needs}
+use Rattle.grammar.specs.Atom as A
 use Rattle.grammar.proofs.atom.tuple_next.Statement.{statement}
 use Rattle.grammar.proofs.atom.tuple_next.Tie as tie
 
@@ -9,8 +9,13 @@ at-requires : tie.Need-at-requires
 at-requires c κs = c .before .before .before .pre
 
 returns : tie.Need-returns
-unfolding S.tupleNext
-returns c = see _ _ _ _ (c .before .at .ensures) (rw (c .if1 .taken) (ends _ _ _ (c .before .before .before .before .before .pre)))
+unfolding A.tupleNext
+returns c =
+    let at = c .before in
+    let entry = at .before .before .before .before in
+    see _ _ _ _ (at .at .ensures)
+    (rw (c .if1 .taken)
+    (ends _ _ _ (entry .pre)))
 
 expect-requires : tie.Need-expect-requires
 expect-requires c κs = c .before .before .before .before .before .before .pre
@@ -19,8 +24,15 @@ same-length : tie.Need-same-length
 same-length c = c .before .before .before .expect .kept .1 .1 .1 .0
 
 returns-2 : tie.Need-returns-2
-unfolding S.tupleNext
-returns-2 c = see _ _ _ _ (c .before .before .before .before .before .before .at .ensures) (rw (c .before .before .before .before .before .if1 .left) (then _ _ _ _ (c .before .before .before .expect .ensures) (ends _ _ _ (c .before .before .before .expect .ensures .fit))))
+unfolding A.tupleNext
+returns-2 c =
+    let expect = c .before .before .before in
+    let if1 = expect .before .before in
+    let at = if1 .before in
+    see _ _ _ _ (at .at .ensures)
+    (rw (if1 .if1 .left)
+    (then _ _ _ _ (expect .expect .ensures)
+    (ends _ _ _ (expect .expect .ensures .fit))))
 
 pub tuple-next-spec : {M : Type 1} → statement M
 tuple-next-spec = tie.close (tie.spec at-requires returns expect-requires same-length returns-2)

@@ -1,7 +1,7 @@
+-- Written by tools/proofs from the code, the definitions and hints.py: docs/PRODUCTIONS.md says how to change it.
 -- `expressions::assigned` meets its contract. Assumes nothing.
 use Rattle.runtime.proofs.Laws.{then, ends}
-use Rattle.grammar.specs.Expressions as S
-use borrow.Author.Needs.{needs}
+use Rattle.grammar.specs.Expressions as E
 use Rattle.grammar.proofs.expressions.assigned.Statement.{statement}
 use Rattle.grammar.proofs.expressions.assigned.Tie as tie
 
@@ -12,12 +12,18 @@ same-length : tie.Need-same-length
 same-length c = c .before .before .before .expect .kept .1 .1 .1 .0
 
 returns : tie.Need-returns
-unfolding S.assigned
-returns c = rw (c .before .before .before .before .before .if1 .taken) (then _ _ _ _ (c .before .before .before .expect .ensures) (ends _ _ _ (c .before .before .before .expect .ensures .fit)))
+unfolding E.assigned
+returns c =
+    let expect = c .before .before .before in
+    let if1 = expect .before .before in
+    rw (if1 .if1 .taken)
+    (then _ _ _ _ (expect .expect .ensures)
+    (ends _ _ _ (expect .expect .ensures .fit)))
 
 returns-2 : tie.Need-returns-2
-unfolding S.assigned
-returns-2 c = rw (c .if1 .left) (ends _ _ _ (c .before .before .before .before .pre))
+unfolding E.assigned
+returns-2 c = rw (c .if1 .left)
+    (ends _ _ _ (c .before .before .before .before .pre))
 
 pub assigned-spec : {M : Type 1} → statement M
 assigned-spec = tie.close (tie.spec expect-requires same-length returns returns-2)

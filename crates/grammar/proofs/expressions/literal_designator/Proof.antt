@@ -1,8 +1,9 @@
+-- Written by tools/proofs from the code, the definitions and hints.py: docs/PRODUCTIONS.md says how to change it.
 -- `expressions::literal_designator` meets its contract. Assumes nothing.
 use Rattle.runtime.proofs.Laws.{peek, any, ends}
-use borrow.Author.Tests.{ne-eqb}
+use borrow.Author.Tests.{ne-eqb, eq-eqb}
 use mathlib.Core.Path.{sym, _∙_}
-use Rattle.grammar.specs.Expressions as S
+use Rattle.grammar.specs.Expressions as E
 use borrow.Author.Needs.{needs}
 use Rattle.grammar.proofs.expressions.literal_designator.Statement.{statement}
 use Rattle.grammar.proofs.expressions.literal_designator.Tie as tie
@@ -23,26 +24,42 @@ same-length : tie.Need-same-length
 same-length c = c .before .before .error .kept .1 .0
 
 returns : tie.Need-returns
-unfolding S.literalDesignator
-returns c = peek _ _ _ _ _ (c .before .before .before .before .before .before .before .before .before .before .before .current .ensures) (rw (sym (c .before .before .before .before .before .before .before .before .before .has .ensures) ∙ c .before .before .before .before .before .before .before .before .if1 .taken) (peek _ _ _ _ _ (c .before .before .before .before .before .before .before .nth .ensures) (rw (c .before .before .before .before .if2 .taken) (any _ _ _ (c .before .before .error .ensures)))))
+unfolding E.literalDesignator
+returns c =
+    let error = c .before .before in
+    let if2 = error .before .before in
+    let nth = if2 .before .before .before in
+    let if1 = nth .before in
+    let has = if1 .before in
+    let current = has .before .before in
+    peek _ _ _ _ _ (current .current .ensures)
+    (rw (sym (has .has .ensures) ∙ if1 .if1 .taken)
+    (peek _ _ _ _ _ (nth .nth .ensures)
+    (rw (eq-eqb _ _ (if2 .if2 .taken))
+    (any _ _ _ (error .error .ensures)))))
 
 returns-2 : tie.Need-returns-2
-unfolding S.literalDesignator
-returns-2 c = peek _ _ _ _ _ (c .before .before .before .before .before .before .before .current .ensures) (rw (sym (c .before .before .before .before .before .has .ensures) ∙ c .before .before .before .before .if1 .taken) (peek _ _ _ _ _ (c .before .before .before .nth .ensures) (rw (ne-eqb _ _ (c .if2 .left)) (ends _ _ _ (c .before .before .before .nth .ensures .fit)))))
+unfolding E.literalDesignator
+returns-2 c =
+    let nth = c .before .before .before in
+    let if1 = nth .before in
+    let has = if1 .before in
+    let current = has .before .before in
+    peek _ _ _ _ _ (current .current .ensures)
+    (rw (sym (has .has .ensures) ∙ if1 .if1 .taken)
+    (peek _ _ _ _ _ (nth .nth .ensures)
+    (rw (ne-eqb _ _ (c .if2 .left))
+    (ends _ _ _ (nth .nth .ensures .fit)))))
 
 returns-3 : tie.Need-returns-3
-unfolding S.literalDesignator
-returns-3 c = peek _ _ _ _ _ (c .before .before .before .current .ensures) (rw (sym (c .before .has .ensures) ∙ c .if1 .left) (ends _ _ _ (c .before .before .before .current .ensures .fit)))
+unfolding E.literalDesignator
+returns-3 c =
+    let has = c .before in
+    let current = has .before .before in
+    peek _ _ _ _ _ (current .current .ensures)
+    (rw (sym (has .has .ensures) ∙ c .if1 .left)
+    (ends _ _ _ (current .current .ensures .fit)))
 
 pub literal-designator-spec : {M : Type 1} → statement M
-literal-designator-spec =
-    tie.close
-    (tie.spec
-    current-requires
-    has-requires
-    nth-requires
-    error-requires
-    same-length
-    returns
-    returns-2
-    returns-3)
+literal-designator-spec = tie.close (tie.spec current-requires has-requires nth-requires error-requires same-length returns
+    returns-2 returns-3)

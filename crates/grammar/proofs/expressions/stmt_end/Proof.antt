@@ -1,22 +1,30 @@
+-- Written by tools/proofs from the code, the definitions and hints.py: docs/PRODUCTIONS.md says how to change it.
 -- `expressions::stmt_end` meets its contract. Assumes nothing.
 use Rattle.runtime.proofs.Laws.{then, step, see, ends}
-use borrow.Author.Tests.{ne-eqb}
+use borrow.Author.Tests.{ne-eqb, eq-eqb}
 use mathlib.Core.Path.{_∙_}
-use Rattle.grammar.specs.Expressions as S
-use borrow.Author.Needs.{needs}
+use Rattle.grammar.specs.Expressions as E
 use Rattle.grammar.proofs.expressions.stmt_end.Statement.{statement}
 use Rattle.grammar.proofs.expressions.stmt_end.Tie as tie
 
 returns : tie.Need-returns
-unfolding S.stmtEnd
-returns c = rw (c .if1 .taken) (ends _ _ _ (c .before .before .before .before .before .pre))
+unfolding E.stmtEnd
+returns c = rw (eq-eqb _ _ (c .if1 .taken))
+    (ends _ _ _ (c .before .before .before .before .before .pre))
 
 at-requires : tie.Need-at-requires
 at-requires c κs = c .before .before .before .before .before .pre
 
 returns-2 : tie.Need-returns-2
-unfolding S.stmtEnd
-returns-2 c = rw (ne-eqb _ _ (c .before .before .if1 .left)) (see _ _ _ _ (c .before .at .ensures) (rw (c .if2 .taken) (ends _ _ _ (c .before .before .before .before .before .before .before .pre))))
+unfolding E.stmtEnd
+returns-2 c =
+    let at = c .before in
+    let if1 = at .before in
+    let entry = if1 .before .before .before .before .before in
+    rw (ne-eqb _ _ (if1 .if1 .left))
+    (see _ _ _ _ (at .at .ensures)
+    (rw (c .if2 .taken)
+    (ends _ _ _ (entry .pre))))
 
 precede-requires : tie.Need-precede-requires
 precede-requires c κs = c .before .before .before .before .before .before .before .before .pre
@@ -31,22 +39,32 @@ complete-requires : tie.Need-complete-requires
 complete-requires c κs = c .before .before .before .no-semicolon .ensures .fit
 
 same-length : tie.Need-same-length
-same-length c = c .before .before .before .complete .kept .1 .0 ∙ c .before .before .before .before .before .before .before .no-semicolon .kept .0 ∙ c .before .before .before .before .before .before .before .before .before .before .before .before .eat .kept .1 .1 .1 .0 ∙ c .before .before .before .before .before .before .before .before .before .before .before .before .before .before .before .before .before .precede .kept .1 .0
+same-length c =
+    let complete = c .before .before .before in
+    let no-semicolon = complete .before .before .before .before in
+    let eat = no-semicolon .before .before .before .before .before in
+    let precede = eat .before .before .before .before .before in
+    complete .complete .kept .1 .0 ∙ no-semicolon .no-semicolon .kept .0 ∙ eat .eat .kept .1 .1 .1 .0 ∙ precede .precede .kept .1 .0
 
 returns-3 : tie.Need-returns-3
-unfolding S.stmtEnd
-returns-3 c = rw (ne-eqb _ _ (c .before .before .before .before .before .before .before .before .before .before .before .before .before .before .before .before .before .before .before .before .before .if1 .left)) (see _ _ _ _ (c .before .before .before .before .before .before .before .before .before .before .before .before .before .before .before .before .before .before .before .before .at .ensures) (rw (c .before .before .before .before .before .before .before .before .before .before .before .before .before .before .before .before .before .before .before .if2 .left) (step _ _ _ _ (c .before .before .before .before .before .before .before .before .before .before .before .before .before .before .before .before .before .precede .ensures) (then _ _ _ _ (c .before .before .before .before .before .before .before .before .before .before .before .before .eat .ensures) (step _ _ _ _ (c .before .before .before .before .before .before .before .no-semicolon .ensures) (step _ _ _ _ (c .before .before .before .complete .ensures) (ends _ _ _ (c .before .before .before .complete .ensures .fit))))))))
+unfolding E.stmtEnd
+returns-3 c =
+    let complete = c .before .before .before in
+    let no-semicolon = complete .before .before .before .before in
+    let eat = no-semicolon .before .before .before .before .before in
+    let precede = eat .before .before .before .before .before in
+    let if2 = precede .before .before in
+    let at = if2 .before in
+    let if1 = at .before in
+    rw (ne-eqb _ _ (if1 .if1 .left))
+    (see _ _ _ _ (at .at .ensures)
+    (rw (if2 .if2 .left)
+    (step _ _ _ _ (precede .precede .ensures)
+    (then _ _ _ _ (eat .eat .ensures)
+    (step _ _ _ _ (no-semicolon .no-semicolon .ensures)
+    (step _ _ _ _ (complete .complete .ensures)
+    (ends _ _ _ (complete .complete .ensures .fit))))))))
 
 pub stmt-end-spec : {M : Type 1} → statement M
-stmt-end-spec =
-    tie.close
-    (tie.spec
-    returns
-    at-requires
-    returns-2
-    precede-requires
-    eat-requires
-    no-semicolon-requires
-    complete-requires
-    same-length
-    returns-3)
+stmt-end-spec = tie.close (tie.spec returns at-requires returns-2 precede-requires eat-requires no-semicolon-requires
+    complete-requires same-length returns-3)

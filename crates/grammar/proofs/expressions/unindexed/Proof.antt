@@ -1,7 +1,8 @@
+-- Written by tools/proofs from the code, the definitions and hints.py: docs/PRODUCTIONS.md says how to change it.
 -- `expressions::unindexed` meets its contract. Assumes nothing.
 use Rattle.runtime.proofs.Laws.{any, all, ends}
 use mathlib.Core.Path.{sym, _∙_}
-use Rattle.grammar.specs.Expressions as S
+use Rattle.grammar.specs.Expressions as E
 use borrow.Author.Needs.{needs}
 use Rattle.grammar.proofs.expressions.unindexed.Statement.{statement}
 use Rattle.grammar.proofs.expressions.unindexed.Tie as tie
@@ -16,12 +17,21 @@ same-length : tie.Need-same-length
 same-length c = c .before .before .error .kept .1 .0
 
 returns : tie.Need-returns
-unfolding S.unindexed
-returns c = all _ _ (λ e. rw (sym (c .before .before .before .before .before .has .ensures) ∙ c .before .before .before .before .if1 .taken) (any _ _ _ (c .before .before .error .ensures)))
+unfolding E.unindexed
+returns c =
+    let error = c .before .before in
+    let if1 = error .before .before in
+    let has = if1 .before in
+    all _ _ (λ e. rw (sym (has .has .ensures) ∙ if1 .if1 .taken)
+    (any _ _ _ (error .error .ensures)))
 
 returns-2 : tie.Need-returns-2
-unfolding S.unindexed
-returns-2 c = all _ _ (λ e. rw (sym (c .before .has .ensures) ∙ c .if1 .left) (ends _ _ _ (c .before .before .before .pre)))
+unfolding E.unindexed
+returns-2 c =
+    let has = c .before in
+    let entry = has .before .before in
+    all _ _ (λ e. rw (sym (has .has .ensures) ∙ c .if1 .left)
+    (ends _ _ _ (entry .pre)))
 
 pub unindexed-spec : {M : Type 1} → statement M
 unindexed-spec = tie.close (tie.spec has-requires error-requires same-length returns returns-2)

@@ -1,8 +1,8 @@
+-- Written by tools/proofs from the code, the definitions and hints.py: docs/PRODUCTIONS.md says how to change it.
 -- `items::filepath_r` meets its contract. Assumes nothing.
 use Rattle.runtime.proofs.Laws.{then, step, see, ends}
 use mathlib.Core.Path.{_∙_}
-use Rattle.grammar.specs.Items as S
-use borrow.Author.Needs.{needs}
+use Rattle.grammar.specs.Items as I
 use Rattle.grammar.proofs.items.filepath_r.Statement.{statement}
 use Rattle.grammar.proofs.items.filepath_r.Tie as tie
 
@@ -19,11 +19,26 @@ complete-requires : tie.Need-complete-requires
 complete-requires c κs = c .before .before .before .bump .ensures .fit
 
 same-length : tie.Need-same-length
-same-length c = c .before .before .before .complete .kept .1 .0 ∙ c .before .before .before .before .before .before .before .bump .kept .1 .1 .1 .0 ∙ c .before .before .before .before .before .before .before .before .before .before .before .before .start .kept .1 .0
+same-length c =
+    let complete = c .before .before .before in
+    let bump = complete .before .before .before .before in
+    let start = bump .before .before .before .before .before in
+    complete .complete .kept .1 .0 ∙ bump .bump .kept .1 .1 .1 .0 ∙ start .start .kept .1 .0
 
 returns : tie.Need-returns
-unfolding S.filepathR
-returns c = see _ _ _ _ (c .before .before .before .before .before .before .before .before .before .before .before .before .before .before .before .at .ensures) (rw (c .before .before .before .before .before .before .before .before .before .before .before .before .before .before .if1 .taken) (step _ _ _ _ (c .before .before .before .before .before .before .before .before .before .before .before .before .start .ensures) (then _ _ _ _ (c .before .before .before .before .before .before .before .bump .ensures) (step _ _ _ _ (c .before .before .before .complete .ensures) (ends _ _ _ (c .before .before .before .complete .ensures .fit))))))
+unfolding I.filepathR
+returns c =
+    let complete = c .before .before .before in
+    let bump = complete .before .before .before .before in
+    let start = bump .before .before .before .before .before in
+    let if1 = start .before .before in
+    let at = if1 .before in
+    see _ _ _ _ (at .at .ensures)
+    (rw (if1 .if1 .taken)
+    (step _ _ _ _ (start .start .ensures)
+    (then _ _ _ _ (bump .bump .ensures)
+    (step _ _ _ _ (complete .complete .ensures)
+    (ends _ _ _ (complete .complete .ensures .fit))))))
 
 err-recover-requires : tie.Need-err-recover-requires
 err-recover-requires c κs = c .before .before .before .before .before .before .pre
@@ -32,19 +47,15 @@ same-length-2 : tie.Need-same-length-2
 same-length-2 c = c .before .before .err-recover .kept .1 .1 .1 .0
 
 returns-2 : tie.Need-returns-2
-unfolding S.filepathR
-returns-2 c = see _ _ _ _ (c .before .before .before .before .before .at .ensures) (rw (c .before .before .before .before .if1 .left) (c .before .before .err-recover .ensures))
+unfolding I.filepathR
+returns-2 c =
+    let err-recover = c .before .before in
+    let if1 = err-recover .before .before in
+    let at = if1 .before in
+    see _ _ _ _ (at .at .ensures)
+    (rw (if1 .if1 .left)
+    (err-recover .err-recover .ensures))
 
 pub filepath-r-spec : {M : Type 1} → statement M
-filepath-r-spec =
-    tie.close
-    (tie.spec
-    at-requires
-    start-requires
-    bump-requires
-    complete-requires
-    same-length
-    returns
-    err-recover-requires
-    same-length-2
-    returns-2)
+filepath-r-spec = tie.close (tie.spec at-requires start-requires bump-requires complete-requires same-length returns
+    err-recover-requires same-length-2 returns-2)

@@ -1,7 +1,8 @@
+-- Written by tools/proofs from the code, the definitions and hints.py: docs/PRODUCTIONS.md says how to change it.
 -- `items::io_type` meets its contract. Assumes nothing.
 use Rattle.runtime.proofs.Laws.{peek, any, ends}
 use mathlib.Core.Path.{sym, _∙_}
-use Rattle.grammar.specs.Items as S
+use Rattle.grammar.specs.Items as I
 use borrow.Author.Needs.{needs}
 use Rattle.grammar.proofs.items.io_type.Statement.{statement}
 use Rattle.grammar.proofs.items.io_type.Tie as tie
@@ -13,8 +14,13 @@ is-classical-type-requires : tie.Need-is-classical-type-requires
 is-classical-type-requires c κs = search needs
 
 returns : tie.Need-returns
-unfolding S.ioType
-returns c = peek _ _ _ _ _ (c .before .before .before .current .ensures) (rw (sym (c .before .is-classical-type .ensures) ∙ c .if1 .taken) (ends _ _ _ (c .before .before .before .current .ensures .fit)))
+unfolding I.ioType
+returns c =
+    let is-classical-type = c .before in
+    let current = is-classical-type .before .before in
+    peek _ _ _ _ _ (current .current .ensures)
+    (rw (sym (is-classical-type .is-classical-type .ensures) ∙ c .if1 .taken)
+    (ends _ _ _ (current .current .ensures .fit)))
 
 error-requires : tie.Need-error-requires
 error-requires c κs = c .before .before .before .before .current .ensures .fit
@@ -23,16 +29,15 @@ same-length : tie.Need-same-length
 same-length c = c .before .before .error .kept .1 .0
 
 returns-2 : tie.Need-returns-2
-unfolding S.ioType
-returns-2 c = peek _ _ _ _ _ (c .before .before .before .before .before .before .before .current .ensures) (rw (sym (c .before .before .before .before .before .is-classical-type .ensures) ∙ c .before .before .before .before .if1 .left) (any _ _ _ (c .before .before .error .ensures)))
+unfolding I.ioType
+returns-2 c =
+    let error = c .before .before in
+    let if1 = error .before .before in
+    let is-classical-type = if1 .before in
+    let current = is-classical-type .before .before in
+    peek _ _ _ _ _ (current .current .ensures)
+    (rw (sym (is-classical-type .is-classical-type .ensures) ∙ if1 .if1 .left)
+    (any _ _ _ (error .error .ensures)))
 
 pub io-type-spec : {M : Type 1} → statement M
-io-type-spec =
-    tie.close
-    (tie.spec
-    current-requires
-    is-classical-type-requires
-    returns
-    error-requires
-    same-length
-    returns-2)
+io-type-spec = tie.close (tie.spec current-requires is-classical-type-requires returns error-requires same-length returns-2)

@@ -1,8 +1,8 @@
+-- Written by tools/proofs from the code, the definitions and hints.py: docs/PRODUCTIONS.md says how to change it.
 -- `items::version_` meets its contract. Assumes nothing.
 use Rattle.runtime.proofs.Laws.{then, step, ends}
 use mathlib.Core.Path.{_∙_}
-use Rattle.grammar.specs.Items as S
-use borrow.Author.Needs.{needs}
+use Rattle.grammar.specs.Items as I
 use Rattle.grammar.proofs.items.version_.Statement.{statement}
 use Rattle.grammar.proofs.items.version_.Tie as tie
 
@@ -22,20 +22,30 @@ complete-requires : tie.Need-complete-requires
 complete-requires c κs = c .before .before .before .before .expect2 .ensures .fit
 
 same-length : tie.Need-same-length
-same-length c = c .before .before .before .complete .kept .1 .0 ∙ c .before .before .before .before .before .before .before .before .expect2 .kept .1 .1 .1 .0 ∙ c .before .before .before .before .before .before .before .before .before .before .before .before .skip-to-semicolon .kept .1 .1 .0 ∙ c .before .before .before .before .before .before .before .before .before .before .before .before .before .before .before .before .before .expect .kept .1 .1 .1 .0 ∙ c .before .before .before .before .before .before .before .before .before .before .before .before .before .before .before .before .before .before .before .before .before .before .start .kept .1 .0
+same-length c =
+    let complete = c .before .before .before in
+    let expect2 = complete .before .before .before .before .before in
+    let skip-to-semicolon = expect2 .before .before .before .before in
+    let expect = skip-to-semicolon .before .before .before .before .before in
+    let start = expect .before .before .before .before .before in
+    complete .complete .kept .1 .0 ∙ expect2 .expect2 .kept .1 .1 .1 .0 ∙ skip-to-semicolon .skip-to-semicolon .kept .1 .1 .0 ∙
+    expect .expect .kept .1 .1 .1 .0 ∙ start .start .kept .1 .0
 
 returns : tie.Need-returns
-unfolding S.version
-returns c = step _ _ _ _ (c .before .before .before .before .before .before .before .before .before .before .before .before .before .before .before .before .before .before .before .before .before .before .start .ensures) (then _ _ _ _ (c .before .before .before .before .before .before .before .before .before .before .before .before .before .before .before .before .before .expect .ensures) (then _ _ _ _ (c .before .before .before .before .before .before .before .before .before .before .before .before .skip-to-semicolon .ensures) (then _ _ _ _ (c .before .before .before .before .before .before .before .before .expect2 .ensures) (step _ _ _ _ (c .before .before .before .complete .ensures) (ends _ _ _ (c .before .before .before .complete .ensures .fit))))))
+unfolding I.version
+returns c =
+    let complete = c .before .before .before in
+    let expect2 = complete .before .before .before .before .before in
+    let skip-to-semicolon = expect2 .before .before .before .before in
+    let expect = skip-to-semicolon .before .before .before .before .before in
+    let start = expect .before .before .before .before .before in
+    step _ _ _ _ (start .start .ensures)
+    (then _ _ _ _ (expect .expect .ensures)
+    (then _ _ _ _ (skip-to-semicolon .skip-to-semicolon .ensures)
+    (then _ _ _ _ (expect2 .expect2 .ensures)
+    (step _ _ _ _ (complete .complete .ensures)
+    (ends _ _ _ (complete .complete .ensures .fit))))))
 
 pub version--spec : {M : Type 1} → statement M
-version--spec =
-    tie.close
-    (tie.spec
-    start-requires
-    expect-requires
-    skip-to-semicolon-requires
-    expect-requires-2
-    complete-requires
-    same-length
-    returns)
+version--spec = tie.close (tie.spec start-requires expect-requires skip-to-semicolon-requires expect-requires-2 complete-requires
+    same-length returns)

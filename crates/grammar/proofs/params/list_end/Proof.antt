@@ -1,9 +1,9 @@
+-- Written by tools/proofs from the code, the definitions and hints.py: docs/PRODUCTIONS.md says how to change it.
 -- `params::list_end` meets its contract. Assumes nothing.
 use Rattle.runtime.proofs.Laws.{then, step, ends}
 use Rattle.grammar.proofs.Laws.{assoc, pick-bind, done-bind}
 use mathlib.Core.Path.{_∙_}
-use Rattle.grammar.specs.Params as S
-use borrow.Author.Needs.{needs}
+use Rattle.grammar.specs.Params as P
 use Rattle.grammar.proofs.params.list_end.Statement.{statement}
 use Rattle.grammar.proofs.params.list_end.Tie as tie
 
@@ -17,31 +17,47 @@ complete-requires : tie.Need-complete-requires
 complete-requires c κs = c .before .before .before .before .expect .ensures .fit
 
 same-length : tie.Need-same-length
-same-length c = c .before .before .before .complete .kept .1 .0 ∙ c .before .before .before .before .before .before .before .before .expect .kept .1 .1 .1 .0 ∙ c .before .before .before .before .before .before .before .before .before .before .before .before .before .list-empty .kept .0
+same-length c =
+    let complete = c .before .before .before in
+    let expect = complete .before .before .before .before .before in
+    let list-empty = expect .before .before .before .before .before in
+    complete .complete .kept .1 .0 ∙ expect .expect .kept .1 .1 .1 .0 ∙ list-empty .list-empty .kept .0
 
 returns : tie.Need-returns
-unfolding S.listEnd
-returns c = simp (assoc, pick-bind, done-bind) (step _ _ _ _ (c .before .before .before .before .before .before .before .before .before .before .before .before .before .list-empty .ensures) (rw (c .before .before .before .before .before .before .before .before .before .before .if1 .taken) (then _ _ _ _ (c .before .before .before .before .before .before .before .before .expect .ensures) (step _ _ _ _ (c .before .before .before .complete .ensures) (ends _ _ _ (c .before .before .before .complete .ensures .fit))))))
+unfolding P.listEnd
+returns c =
+    let complete = c .before .before .before in
+    let expect = complete .before .before .before .before .before in
+    let if1 = expect .before .before in
+    let list-empty = if1 .before .before .before in
+    simp (assoc, pick-bind, done-bind)
+    (step _ _ _ _ (list-empty .list-empty .ensures)
+    (rw (if1 .if1 .taken)
+    (then _ _ _ _ (expect .expect .ensures)
+    (step _ _ _ _ (complete .complete .ensures)
+    (ends _ _ _ (complete .complete .ensures .fit))))))
 
 complete-requires-2 : tie.Need-complete-requires-2
 complete-requires-2 c κs = c .before .before .before .before .list-empty .ensures .fit
 
 same-length-2 : tie.Need-same-length-2
-same-length-2 c = c .before .before .before .complete2 .kept .1 .0 ∙ c .before .before .before .before .before .before .before .before .list-empty .kept .0
+same-length-2 c =
+    let complete2 = c .before .before .before in
+    let list-empty = complete2 .before .before .before .before .before in
+    complete2 .complete2 .kept .1 .0 ∙ list-empty .list-empty .kept .0
 
 returns-2 : tie.Need-returns-2
-unfolding S.listEnd
-returns-2 c = simp (assoc, pick-bind, done-bind) (step _ _ _ _ (c .before .before .before .before .before .before .before .before .list-empty .ensures) (rw (c .before .before .before .before .before .if1 .left) (step _ _ _ _ (c .before .before .before .complete2 .ensures) (ends _ _ _ (c .before .before .before .complete2 .ensures .fit)))))
+unfolding P.listEnd
+returns-2 c =
+    let complete2 = c .before .before .before in
+    let if1 = complete2 .before .before in
+    let list-empty = if1 .before .before .before in
+    simp (assoc, pick-bind, done-bind)
+    (step _ _ _ _ (list-empty .list-empty .ensures)
+    (rw (if1 .if1 .left)
+    (step _ _ _ _ (complete2 .complete2 .ensures)
+    (ends _ _ _ (complete2 .complete2 .ensures .fit)))))
 
 pub list-end-spec : {M : Type 1} → statement M
-list-end-spec =
-    tie.close
-    (tie.spec
-    list-empty-requires
-    expect-requires
-    complete-requires
-    same-length
-    returns
-    complete-requires-2
-    same-length-2
-    returns-2)
+list-end-spec = tie.close (tie.spec list-empty-requires expect-requires complete-requires same-length returns complete-requires-2
+    same-length-2 returns-2)
