@@ -1,5 +1,5 @@
-// The productions that call one another, in one cycle: src/grammar.rs and the files below it. Each counted call has one call less
-// to spare, `left`; docs/DECISIONS.md says which function of the crate is where.
+// The productions that call one another, in one cycle: src/grammar.rs and the files below it, in the crate's order. Each counted call has
+// one call less to spare, `left`; docs/DECISIONS.md says which function of the crate is where, and why the names are short.
 pub mod entry;
 
 use grammar::Got;
@@ -34,6 +34,726 @@ ghost use Rattle.grammar.specs.Params as P;
 ghost use Rattle.grammar.specs.Atom as atoms;
 ghost use Rattle.grammar.specs.Items as I;
 ghost use Rattle.grammar.specs.Entry.{counted, later};
+
+// ---- src/grammar.rs
+
+// the end of def_stmt and defcal_: opt_ret_type, and the body
+fn sig(
+    kinds: &[u16],
+    joints: &[u64],
+    room: &mut [u32],
+    p: Parser,
+    mode: u8,
+    left: u32,
+    m: u32,
+    node: u16,
+) -> Parser
+    requires { ⌜ Fit p ⌝ }
+    ensures { λ r. ⌜ Does (env (now (kinds .entry)) (now (joints .entry))) (I.signature (counted (tableOf mode) left) m node) (view p (now (room .entry))) tt (view r (now (room .exit))) ⌝ }
+{
+    if p.at(kinds, joints, k::THIN_ARROW) {
+        let s = p.start(room);
+        let p1 = s.p;
+        let p2 = p1.bump(kinds, joints, room, k::THIN_ARROW);
+        let p3 = grammar::scalar_return(kinds, joints, room, p2);
+        let l = p3.current(kinds, joints);
+        let p4 = l.p;
+        if kind::is_type(l.kind) {
+            let p5 = spec(kinds, joints, room, p4, mode, left);
+            let d = p5.complete(room, s.m, k::RETURN_SIGNATURE);
+            let p6 = d.p;
+            let p7 = body(kinds, joints, room, p6, mode, left);
+            let x = p7.complete(room, m, node);
+            let p8 = x.p;
+            return p8;
+        }
+        let p9 = p4.abandon(room, s.m);
+        let p10 = body(kinds, joints, room, p9, mode, left);
+        let x = p10.complete(room, m, node);
+        let p11 = x.p;
+        return p11;
+    }
+    let p12 = body(kinds, joints, room, p, mode, left);
+    let x = p12.complete(room, m, node);
+    let p13 = x.p;
+    p13
+}
+
+// ---- src/grammar/params.rs
+
+// expression_list
+fn els(kinds: &[u16], joints: &[u64], room: &mut [u32], p: Parser, mode: u8, left: u32) -> Parser
+    requires { ⌜ Fit p ⌝ }
+    ensures { λ r. ⌜ Does (env (now (kinds .entry)) (now (joints .entry))) (counted (tableOf mode) left .expressionList) (view p (now (room .entry))) tt (view r (now (room .exit))) ⌝ }
+{
+    if left == 0 {
+        return p.stop(room, Stop::Deep);
+    }
+    let d = left - 1;
+    list(kinds, joints, room, p, mode, d, DefFlavor::ExpressionList)
+}
+
+// _param_list_openqasm
+fn list(
+    kinds: &[u16],
+    joints: &[u64],
+    room: &mut [u32],
+    p: Parser,
+    mode: u8,
+    left: u32,
+    flavor: DefFlavor,
+) -> Parser
+    requires { ⌜ Fit p ⌝ }
+    ensures { λ r. ⌜ Does (env (now (kinds .entry)) (now (joints .entry))) (P.paramListOpenqasm (counted (tableOf mode) left) flavor) (view p (now (room .entry))) tt (view r (now (room .exit))) ⌝ }
+{
+    let shape = params::shape_of(flavor);
+    let how = shape.how;
+    let s = params::list_open(kinds, joints, room, p, shape);
+    let m = s.m;
+    let mut q = s.p;
+    let mut n: u32 = 0;
+    while params::list_goes(kinds, joints, q, shape) {
+        let s1 = q.start(room);
+        let q1 = s1.p;
+        let b = params::param_ahead(kinds, joints, q1);
+        let q2 = b.p;
+        if b.yes {
+            let f = par(kinds, joints, room, q2, mode, left, how, s1.m);
+            let q3 = f.p;
+            if f.yes {
+                n = n + 1;
+                let t = params::list_next(kinds, joints, room, q3, shape);
+                q = t.p;
+                if t.yes {
+                    continue;
+                }
+                return params::list_end(kinds, joints, room, q, m, shape, n);
+            }
+            return params::list_end(kinds, joints, room, q3, m, shape, n);
+        }
+        let q4 = q2.error(room, say::EXPECTED_VALUE_PARAMETER, 0);
+        let q5 = q4.abandon(room, s1.m);
+        return params::list_end(kinds, joints, room, q5, m, shape, n);
+    }
+    params::list_end(kinds, joints, room, q, m, shape, n)
+}
+
+// one parameter of _param_list_openqasm: expr_or_range_expr, arg_gate_call_qubit, param_typed or param_untyped
+fn par(
+    kinds: &[u16],
+    joints: &[u64],
+    room: &mut [u32],
+    p: Parser,
+    mode: u8,
+    left: u32,
+    how: How,
+    m: u32,
+) -> Told
+    requires { ⌜ Fit p ⌝ }
+    ensures { λ r. ⌜ Does (env (now (kinds .entry)) (now (joints .entry))) (P.foundParam (counted (tableOf mode) left) how m) (view p (now (room .entry))) (r .yes) (view (r .p) (now (room .exit))) ⌝ }
+{
+    match how {
+        How::Expr => {
+            let p1 = p.abandon(room, m);
+            let s = p1.start(room);
+            let p2 = s.p;
+            let e = expr_bp(kinds, joints, room, p2, mode, left, Mark::Fresh, false, 1);
+            let p3 = e.p;
+            if p3.at(kinds, joints, k::COLON) {
+                let p4 = p3.bump(kinds, joints, room, k::COLON);
+                let e1 = expr_bp(kinds, joints, room, p4, mode, left, Mark::Fresh, false, 1);
+                let p5 = e1.p;
+                if p5.at(kinds, joints, k::COLON) {
+                    let p6 = p5.bump(kinds, joints, room, k::COLON);
+                    let e2 = expr_bp(kinds, joints, room, p6, mode, left, Mark::Fresh, false, 1);
+                    let p7 = e2.p;
+                    let d = p7.complete(room, s.m, k::RANGE_EXPR);
+                    let p8 = d.p;
+                    return Told { p: p8, yes: true };
+                }
+                let d = p5.complete(room, s.m, k::RANGE_EXPR);
+                let p9 = d.p;
+                return Told { p: p9, yes: true };
+            }
+            let p10 = p3.abandon(room, s.m);
+            return Told { p: p10, yes: true };
+        }
+        How::Qubit => {
+            return qarg(kinds, joints, room, p, mode, left, m);
+        }
+        How::Typed => {
+            let p1 = spec(kinds, joints, room, p, mode, left);
+            let p2 = expressions::var_name(kinds, joints, room, p1);
+            let d = p2.complete(room, m, k::TYPED_PARAM);
+            let p3 = d.p;
+            return Told { p: p3, yes: true };
+        }
+        How::Untyped => {
+            return params::param_untyped(kinds, joints, room, p, m);
+        }
+    }
+}
+
+// arg_gate_call_qubit
+fn qarg(
+    kinds: &[u16],
+    joints: &[u64],
+    room: &mut [u32],
+    p: Parser,
+    mode: u8,
+    left: u32,
+    m: u32,
+) -> Told
+    requires { ⌜ Fit p ⌝ }
+    ensures { λ r. ⌜ Does (env (now (kinds .entry)) (now (joints .entry))) (P.argGateCallQubit (counted (tableOf mode) left) m) (view p (now (room .entry))) (r .yes) (view (r .p) (now (room .exit))) ⌝ }
+{
+    if p.at(kinds, joints, k::HARDWAREIDENT) {
+        let p1 = p.bump(kinds, joints, room, k::HARDWAREIDENT);
+        let d = p1.complete(room, m, k::HARDWARE_QUBIT);
+        let p2 = d.p;
+        return Told { p: p2, yes: true };
+    }
+    if p.at(kinds, joints, k::IDENT) {
+        let p3 = p.bump(kinds, joints, room, k::IDENT);
+        let d = p3.complete(room, m, k::IDENTIFIER);
+        let p4 = d.p;
+        let cm = d.cm;
+        if p4.at(kinds, joints, k::L_BRACK) {
+            let x = ids(kinds, joints, room, p4, mode, left, cm);
+            let p5 = x.p;
+            return Told { p: p5, yes: true };
+        }
+        return Told { p: p4, yes: true };
+    }
+    let p6 = p.error(room, say::EXPECTED_NAME_IN_QUBIT_ARGUMENT, 0);
+    let p7 = p6.abandon(room, m);
+    Told { p: p7, yes: false }
+}
+
+// ---- src/grammar/expressions/atom.rs
+
+// atom_expr
+fn atom(kinds: &[u16], joints: &[u64], room: &mut [u32], p: Parser, mode: u8, left: u32) -> Parsed
+    requires { ⌜ Fit p ⌝ }
+    ensures { λ r. ⌜ Does (env (now (kinds .entry)) (now (joints .entry))) (atoms.atomExpr (counted (tableOf mode) left)) (view p (now (room .entry))) (r .got) (view (r .p) (now (room .exit))) ⌝ }
+{
+    let g = atom::literal(kinds, joints, room, p);
+    let p1 = g.p;
+    let got = g.got;
+    if let Got::Is(cm, _) = got {
+        return Parsed {
+            p: p1,
+            got: Got::Is(cm, false),
+        };
+    }
+    let la = p1.nth(kinds, joints, 1);
+    let p2 = la.p;
+    let l = p2.current(kinds, joints);
+    let p4 = l.p;
+    if kind::is_classical_type(l.kind) {
+        let d = cast(kinds, joints, room, p4, mode, left);
+        let q = d.p;
+        let cm = d.cm;
+        return Parsed {
+            p: q,
+            got: Got::Is(cm, false),
+        };
+    }
+    let l2 = p4.current(kinds, joints);
+    let p3 = l2.p;
+    let first = l2.kind;
+    let next = la.kind;
+    match first {
+        k::HARDWAREIDENT => {
+            let d = atom::hardware_qubit(kinds, joints, room, p3);
+            return atom::node(d);
+        }
+        k::L_PAREN => {
+            let d = tup(kinds, joints, room, p3, mode, left);
+            return atom::node(d);
+        }
+        k::L_BRACK => {
+            let d = arr(kinds, joints, room, p3, mode, left);
+            return atom::node(d);
+        }
+        k::BOX_KW => {
+            let d = bx(kinds, joints, room, p3, mode, left);
+            return atom::node(d);
+        }
+        k::MEASURE_KW => {
+            let d = meas(kinds, joints, room, p3, mode, left);
+            return atom::node(d);
+        }
+        k::RETURN_KW => {
+            let d = ret(kinds, joints, room, p3, mode, left);
+            return atom::node(d);
+        }
+        k::L_CURLY => {
+            let d = blk(kinds, joints, room, p3, mode, left);
+            return atom::node(d);
+        }
+        k::INV_KW => {
+            let d = mods(kinds, joints, room, p3, mode, left);
+            return atom::node(d);
+        }
+        k::POW_KW => {
+            let d = mods(kinds, joints, room, p3, mode, left);
+            return atom::node(d);
+        }
+        k::CTRL_KW => {
+            let d = mods(kinds, joints, room, p3, mode, left);
+            return atom::node(d);
+        }
+        k::NEGCTRL_KW => {
+            let d = mods(kinds, joints, room, p3, mode, left);
+            return atom::node(d);
+        }
+        k::GPHASE_KW => {
+            let d = gph(kinds, joints, room, p3, mode, left);
+            return atom::node(d);
+        }
+        k::IDENT => {
+            if Fixed::QubitFirst.has(next) {
+                let d = gate(kinds, joints, room, p3, mode, left);
+                return atom::node(d);
+            }
+            let d = atom::identifier(kinds, joints, room, p3);
+            return atom::node(d);
+        }
+        _ => {
+            let q = p3.err_and_bump(kinds, joints, room, say::ATOM_EXPR_EXPECTED_EXPRESSION);
+            return Parsed {
+                p: q,
+                got: Got::Nothing,
+            };
+        }
+    }
+}
+
+// cast_expr
+fn cast(kinds: &[u16], joints: &[u64], room: &mut [u32], p: Parser, mode: u8, left: u32) -> Done
+    requires { ⌜ Fit p ⌝ }
+    ensures { λ r. ⌜ Does (env (now (kinds .entry)) (now (joints .entry))) (atoms.castExpr (counted (tableOf mode) left)) (view p (now (room .entry))) (r .cm) (view (r .p) (now (room .exit))) ⌝ }
+{
+    let s = p.start(room);
+    let p1 = s.p;
+    let p2 = spec(kinds, joints, room, p1, mode, left);
+    let t = p2.expect(kinds, joints, room, k::L_PAREN);
+    let p3 = t.p;
+    let e = expr_bp(kinds, joints, room, p3, mode, left, Mark::Fresh, false, 1);
+    let p4 = e.p;
+    let u = p4.expect(kinds, joints, room, k::R_PAREN);
+    let p5 = u.p;
+    p5.complete(room, s.m, k::CAST_EXPRESSION)
+}
+
+// gphase_call_expr
+fn gph(kinds: &[u16], joints: &[u64], room: &mut [u32], p: Parser, mode: u8, left: u32) -> Done
+    requires { ⌜ Fit p ⌝ }
+    ensures { λ r. ⌜ Does (env (now (kinds .entry)) (now (joints .entry))) (atoms.gphaseCallExpr (counted (tableOf mode) left)) (view p (now (room .entry))) (r .cm) (view (r .p) (now (room .exit))) ⌝ }
+{
+    let p1 = p.must(kinds, joints, room, k::GPHASE_KW);
+    let s = p1.start(room);
+    let p2 = s.p;
+    let p3 = p2.bump(kinds, joints, room, k::GPHASE_KW);
+    let e = expr_bp(kinds, joints, room, p3, mode, left, Mark::Fresh, false, 1);
+    let p4 = e.p;
+    p4.complete(room, s.m, k::G_PHASE_CALL_EXPR)
+}
+
+// modified_gate_call_expr
+fn mods(kinds: &[u16], joints: &[u64], room: &mut [u32], p: Parser, mode: u8, left: u32) -> Done
+    requires { ⌜ Fit p ⌝ }
+    ensures { λ r. ⌜ Does (env (now (kinds .entry)) (now (joints .entry))) (atoms.modifiedGateCallExpr (counted (tableOf mode) left)) (view p (now (room .entry))) (r .cm) (view (r .p) (now (room .exit))) ⌝ }
+{
+    let s = p.start(room);
+    let m = s.m;
+    let mut q = s.p;
+    loop {
+        let l = q.current(kinds, joints);
+        let q1 = l.p;
+        let kw = l.kind;
+        match kw {
+            k::INV_KW => {
+                q = atom::inv_modifier(kinds, joints, room, q1);
+            }
+            k::POW_KW => {
+                q = ctl(
+                    kinds,
+                    joints,
+                    room,
+                    q1,
+                    mode,
+                    left,
+                    k::POW_KW,
+                    k::POW_MODIFIER,
+                );
+            }
+            k::CTRL_KW => {
+                q = ctl(
+                    kinds,
+                    joints,
+                    room,
+                    q1,
+                    mode,
+                    left,
+                    k::CTRL_KW,
+                    k::CTRL_MODIFIER,
+                );
+            }
+            k::NEGCTRL_KW => {
+                q = ctl(
+                    kinds,
+                    joints,
+                    room,
+                    q1,
+                    mode,
+                    left,
+                    k::NEGCTRL_KW,
+                    k::NEG_CTRL_MODIFIER,
+                );
+            }
+            _ => {
+                if q1.at(kinds, joints, k::GPHASE_KW) {
+                    let d = gph(kinds, joints, room, q1, mode, left);
+                    let q2 = d.p;
+                    return q2.complete(room, m, k::MODIFIED_GATE_CALL_EXPR);
+                }
+                let d = gate(kinds, joints, room, q1, mode, left);
+                let q2 = d.p;
+                return q2.complete(room, m, k::MODIFIED_GATE_CALL_EXPR);
+            }
+        }
+    }
+}
+
+// the modifiers `pow`, `ctrl` and `negctrl` of modified_gate_call_expr
+fn ctl(
+    kinds: &[u16],
+    joints: &[u64],
+    room: &mut [u32],
+    p: Parser,
+    mode: u8,
+    left: u32,
+    kw: u16,
+    node: u16,
+) -> Parser
+    requires { ⌜ Fit p ⌝ }
+    ensures { λ r. ⌜ Does (env (now (kinds .entry)) (now (joints .entry))) (atoms.modifier (counted (tableOf mode) left) kw node) (view p (now (room .entry))) tt (view r (now (room .exit))) ⌝ }
+{
+    let s1 = p.start(room);
+    let p1 = s1.p;
+    let p2 = p1.bump(kinds, joints, room, kw);
+    if p2.at(kinds, joints, k::L_PAREN) {
+        let s2 = p2.start(room);
+        let p3 = s2.p;
+        let t = p3.expect(kinds, joints, room, k::L_PAREN);
+        let p4 = t.p;
+        let e = expr_bp(kinds, joints, room, p4, mode, left, Mark::Fresh, false, 1);
+        let p5 = e.p;
+        let u = p5.expect(kinds, joints, room, k::R_PAREN);
+        let p6 = u.p;
+        let d = p6.complete(room, s2.m, k::PAREN_EXPR);
+        let p7 = d.p;
+        return grammar::close(kinds, joints, room, p7, k::AT, s1.m, node);
+    }
+    let p10 = atom::no_argument(room, p2, kw);
+    grammar::close(kinds, joints, room, p10, k::AT, s1.m, node)
+}
+
+// gate_call_expr
+fn gate(kinds: &[u16], joints: &[u64], room: &mut [u32], p: Parser, mode: u8, left: u32) -> Done
+    requires { ⌜ Fit p ⌝ }
+    ensures { λ r. ⌜ Does (env (now (kinds .entry)) (now (joints .entry))) (atoms.gateCallExpr (counted (tableOf mode) left)) (view p (now (room .entry))) (r .cm) (view (r .p) (now (room .exit))) ⌝ }
+{
+    let s = p.start(room);
+    let p1 = s.p;
+    let i = atom::identifier(kinds, joints, room, p1);
+    let p2 = i.p;
+    if p2.at(kinds, joints, k::L_PAREN) {
+        let p3 = args(kinds, joints, room, p2, mode, left);
+        let p4 = list(
+            kinds,
+            joints,
+            room,
+            p3,
+            mode,
+            left,
+            DefFlavor::GateCallQubits,
+        );
+        return p4.complete(room, s.m, k::GATE_CALL_EXPR);
+    }
+    let p5 = list(
+        kinds,
+        joints,
+        room,
+        p2,
+        mode,
+        left,
+        DefFlavor::GateCallQubits,
+    );
+    p5.complete(room, s.m, k::GATE_CALL_EXPR)
+}
+
+// measure_expression
+fn meas(kinds: &[u16], joints: &[u64], room: &mut [u32], p: Parser, mode: u8, left: u32) -> Done
+    requires { ⌜ Fit p ⌝ }
+    ensures { λ r. ⌜ Does (env (now (kinds .entry)) (now (joints .entry))) (atoms.measureExpression (counted (tableOf mode) left)) (view p (now (room .entry))) (r .cm) (view (r .p) (now (room .exit))) ⌝ }
+{
+    let s = p.start(room);
+    let p1 = s.p;
+    let p2 = p1.bump(kinds, joints, room, k::MEASURE_KW);
+    let l = p2.current(kinds, joints);
+    let p3 = l.p;
+    if Fixed::QubitFirst.has(l.kind) {
+        let s1 = p3.start(room);
+        let p4 = s1.p;
+        let x = qarg(kinds, joints, room, p4, mode, left, s1.m);
+        let p5 = x.p;
+        return p5.complete(room, s.m, k::MEASURE_EXPRESSION);
+    }
+    let p6 = p3.error(room, say::EXPECTING_QUBIT_S_TO_MEASURE, 0);
+    p6.complete(room, s.m, k::MEASURE_EXPRESSION)
+}
+
+// tuple_expr
+fn tup(kinds: &[u16], joints: &[u64], room: &mut [u32], p: Parser, mode: u8, left: u32) -> Done
+    requires { ⌜ Fit p ⌝ }
+    ensures { λ r. ⌜ Does (env (now (kinds .entry)) (now (joints .entry))) (atoms.tupleExpr (counted (tableOf mode) left)) (view p (now (room .entry))) (r .cm) (view (r .p) (now (room .exit))) ⌝ }
+{
+    let p1 = p.must(kinds, joints, room, k::L_PAREN);
+    let s = p1.start(room);
+    let p2 = s.p;
+    let m = s.m;
+    let t = p2.expect(kinds, joints, room, k::L_PAREN);
+    let p3 = t.p;
+    let c = atom::tuple_comma(kinds, joints, room, p3);
+    let mut q = c.p;
+    let mut comma = c.yes;
+    let mut saw = false;
+    while q.goes_on(kinds, joints, k::R_PAREN) {
+        saw = true;
+        let e = expr_bp(kinds, joints, room, q, mode, left, Mark::Fresh, false, 1);
+        let q1 = e.p;
+        let g = e.got;
+        let Got::Is(_, _) = g else {
+            return atom::tuple_end(kinds, joints, room, q1, m, saw, comma);
+        };
+        let n = atom::tuple_next(kinds, joints, room, q1, comma);
+        q = n.p;
+        comma = n.yes;
+    }
+    atom::tuple_end(kinds, joints, room, q, m, saw, comma)
+}
+
+// array_expr
+fn arr(kinds: &[u16], joints: &[u64], room: &mut [u32], p: Parser, mode: u8, left: u32) -> Done
+    requires { ⌜ Fit p ⌝ }
+    ensures { λ r. ⌜ Does (env (now (kinds .entry)) (now (joints .entry))) (atoms.arrayExpr (counted (tableOf mode) left)) (view p (now (room .entry))) (r .cm) (view (r .p) (now (room .exit))) ⌝ }
+{
+    let p1 = p.must(kinds, joints, room, k::L_BRACK);
+    let s = p1.start(room);
+    let p2 = s.p;
+    let m = s.m;
+    let mut q = p2.bump(kinds, joints, room, k::L_BRACK);
+    let mut first = true;
+    let mut semi = false;
+    while q.goes_on(kinds, joints, k::R_BRACK) {
+        let e = expr_bp(kinds, joints, room, q, mode, left, Mark::Fresh, false, 1);
+        let q1 = e.p;
+        let g = e.got;
+        let Got::Is(_, _) = g else {
+            return atom::array_end(kinds, joints, room, q1, m);
+        };
+        let n = atom::array_next(kinds, joints, room, q1, first, semi);
+        let q2 = n.p;
+        let next = n.next;
+        match next {
+            Next::Semi => {
+                q = q2;
+                first = false;
+                semi = true;
+            }
+            Next::Comma => {
+                q = q2;
+                first = false;
+            }
+            Next::Stop => {
+                return atom::array_end(kinds, joints, room, q2, m);
+            }
+        }
+    }
+    atom::array_end(kinds, joints, room, q, m)
+}
+
+// try_block_expr
+fn body(kinds: &[u16], joints: &[u64], room: &mut [u32], p: Parser, mode: u8, left: u32) -> Parser
+    requires { ⌜ Fit p ⌝ }
+    ensures { λ r. ⌜ Does (env (now (kinds .entry)) (now (joints .entry))) (atoms.tryBlockExpr (counted (tableOf mode) left)) (view p (now (room .entry))) tt (view r (now (room .exit))) ⌝ }
+{
+    if p.at(kinds, joints, k::L_CURLY) {
+        let d = blk(kinds, joints, room, p, mode, left);
+        return d.p;
+    }
+    p.error(room, say::EXPECTED_A_BLOCK, 0)
+}
+
+// block_expr
+fn blk(kinds: &[u16], joints: &[u64], room: &mut [u32], p: Parser, mode: u8, left: u32) -> Done
+    requires { ⌜ Fit p ⌝ }
+    ensures { λ r. ⌜ Does (env (now (kinds .entry)) (now (joints .entry))) (atoms.blockExpr (counted (tableOf mode) left)) (view p (now (room .entry))) (r .cm) (view (r .p) (now (room .exit))) ⌝ }
+{
+    let p1 = p.must(kinds, joints, room, k::L_CURLY);
+    let s = p1.start(room);
+    let p2 = s.p;
+    let p3 = p2.bump(kinds, joints, room, k::L_CURLY);
+    let p4 = sts(kinds, joints, room, p3, mode, left);
+    let t = p4.expect(kinds, joints, room, k::R_CURLY);
+    let p5 = t.p;
+    p5.complete(room, s.m, k::BLOCK_EXPR)
+}
+
+// return_expr
+fn ret(kinds: &[u16], joints: &[u64], room: &mut [u32], p: Parser, mode: u8, left: u32) -> Done
+    requires { ⌜ Fit p ⌝ }
+    ensures { λ r. ⌜ Does (env (now (kinds .entry)) (now (joints .entry))) (atoms.returnExpr (counted (tableOf mode) left)) (view p (now (room .entry))) (r .cm) (view (r .p) (now (room .exit))) ⌝ }
+{
+    let p1 = p.must(kinds, joints, room, k::RETURN_KW);
+    let s = p1.start(room);
+    let p2 = s.p;
+    let p3 = p2.bump_any(kinds, joints, room);
+    let t = p3.at_ts(kinds, joints, Fixed::ExprFirst);
+    let p4 = t.p;
+    if t.yes {
+        let e = expr_bp(kinds, joints, room, p4, mode, left, Mark::Fresh, false, 1);
+        let p5 = e.p;
+        return p5.complete(room, s.m, k::RETURN_EXPR);
+    }
+    p4.complete(room, s.m, k::RETURN_EXPR)
+}
+
+// box_expr
+fn bx(kinds: &[u16], joints: &[u64], room: &mut [u32], p: Parser, mode: u8, left: u32) -> Done
+    requires { ⌜ Fit p ⌝ }
+    ensures { λ r. ⌜ Does (env (now (kinds .entry)) (now (joints .entry))) (atoms.boxExpr (counted (tableOf mode) left)) (view p (now (room .entry))) (r .cm) (view (r .p) (now (room .exit))) ⌝ }
+{
+    let p1 = p.must(kinds, joints, room, k::BOX_KW);
+    let s = p1.start(room);
+    let p2 = s.p;
+    let p3 = p2.bump(kinds, joints, room, k::BOX_KW);
+    let t = p3.at_ts(kinds, joints, Fixed::ExprFirst);
+    let p4 = t.p;
+    if t.yes {
+        let e = expr_bp(kinds, joints, room, p4, mode, left, Mark::Fresh, false, 1);
+        let p5 = e.p;
+        return p5.complete(room, s.m, k::BOX_EXPR);
+    }
+    p4.complete(room, s.m, k::BOX_EXPR)
+}
+
+// ---- src/grammar/expressions.rs
+
+// range_expr
+fn range(kinds: &[u16], joints: &[u64], room: &mut [u32], p: Parser, mode: u8, left: u32) -> Parser
+    requires { ⌜ Fit p ⌝ }
+    ensures { λ r. ⌜ Does (env (now (kinds .entry)) (now (joints .entry))) (E.rangeExpr (counted (tableOf mode) left)) (view p (now (room .entry))) tt (view r (now (room .exit))) ⌝ }
+{
+    let s = p.start(room);
+    let p1 = s.p;
+    let p2 = p1.must(kinds, joints, room, k::L_BRACK);
+    let p3 = p2.bump(kinds, joints, room, k::L_BRACK);
+    let e = expr_bp(kinds, joints, room, p3, mode, left, Mark::Fresh, false, 1);
+    let p4 = e.p;
+    if p4.at(kinds, joints, k::COLON) {
+        let p5 = p4.bump(kinds, joints, room, k::COLON);
+        let e2 = expr_bp(kinds, joints, room, p5, mode, left, Mark::Fresh, false, 1);
+        let p6 = e2.p;
+        if p6.at(kinds, joints, k::COLON) {
+            let p7 = p6.bump(kinds, joints, room, k::COLON);
+            let e3 = expr_bp(kinds, joints, room, p7, mode, left, Mark::Fresh, false, 1);
+            let p8 = e3.p;
+            return grammar::close(kinds, joints, room, p8, k::R_BRACK, s.m, k::RANGE_EXPR);
+        }
+        return grammar::close(kinds, joints, room, p6, k::R_BRACK, s.m, k::RANGE_EXPR);
+    }
+    let p9 = p4.error(room, say::EXPECTING_COLON_IN_RANGE_EXPRESSION, 0);
+    grammar::close(kinds, joints, room, p9, k::R_BRACK, s.m, k::RANGE_EXPR)
+}
+
+// stmt, with let_stmt
+fn stmt(kinds: &[u16], joints: &[u64], room: &mut [u32], p: Parser, mode: u8, left: u32) -> Parser
+    requires { ⌜ Fit p ⌝ }
+    ensures { λ r. ⌜ Does (env (now (kinds .entry)) (now (joints .entry))) (counted (tableOf mode) left .stmt) (view p (now (room .entry))) tt (view r (now (room .exit))) ⌝ }
+{
+    if left == 0 {
+        return p.stop(room, Stop::Deep);
+    }
+    let d = left - 1;
+    let t = p.eat(kinds, joints, room, k::SEMICOLON);
+    let p1 = t.p;
+    if t.yes {
+        return p1;
+    }
+    if p1.at(kinds, joints, k::LET_KW) {
+        let s = p1.start(room);
+        let p2 = s.p;
+        let p3 = p2.bump(kinds, joints, room, k::LET_KW);
+        let u = p3.expect(kinds, joints, room, k::IDENT);
+        let p4 = u.p;
+        let v = p4.expect(kinds, joints, room, k::EQ);
+        let p5 = v.p;
+        let e = expr_bp(kinds, joints, room, p5, mode, d, Mark::Fresh, false, 1);
+        let p6 = e.p;
+        return grammar::close(kinds, joints, room, p6, k::SEMICOLON, s.m, k::LET_STMT);
+    }
+    let s = p1.start(room);
+    let p8 = s.p;
+    let o = opt(kinds, joints, room, p8, mode, d, s.m);
+    let p9 = o.p;
+    if o.yes {
+        return p9;
+    }
+    if p9.at(kinds, joints, k::PRAGMA) {
+        let p10 = p9.bump_any(kinds, joints, room);
+        let x = p10.complete(room, s.m, k::PRAGMA_STATEMENT);
+        return x.p;
+    }
+    if p9.at(kinds, joints, k::ANNOTATION) {
+        let p11 = p9.bump_any(kinds, joints, room);
+        let x = p11.complete(room, s.m, k::ANNOTATION_STATEMENT);
+        return x.p;
+    }
+    let c = expressions::stmt_lacks_expr(kinds, joints, p9);
+    let p12 = c.p;
+    if c.yes {
+        let p13 = p12.err_and_bump(
+            kinds,
+            joints,
+            room,
+            say::STMT_EXPECTED_EXPRESSION_TYPE_DECLARATION_OR_LET,
+        );
+        return p13.abandon(room, s.m);
+    }
+    let e = expr_bp(kinds, joints, room, p12, mode, d, Mark::Given(s.m), true, 1);
+    let p14 = e.p;
+    let g = e.got;
+    match g {
+        Got::Nothing => p14,
+        Got::Is(cm, block) => expressions::stmt_end(kinds, joints, room, p14, cm, block),
+    }
+}
+
+// expr_block_contents
+fn sts(kinds: &[u16], joints: &[u64], room: &mut [u32], p: Parser, mode: u8, left: u32) -> Parser
+    requires { ⌜ Fit p ⌝ }
+    ensures { λ r. ⌜ Does (env (now (kinds .entry)) (now (joints .entry))) (E.exprBlockContents (counted (tableOf mode) left)) (view p (now (room .entry))) tt (view r (now (room .exit))) ⌝ }
+{
+    let mut q = p;
+    while q.goes_on(kinds, joints, k::R_CURLY) {
+        q = stmt(kinds, joints, room, q, mode, left);
+    }
+    q
+}
 
 // expr_bp
 pub fn expr_bp(
@@ -243,6 +963,30 @@ fn post(
     }
 }
 
+// postfix_expr at `[`: indexed_identifier, or index_expr with or without an error
+fn idx(
+    kinds: &[u16],
+    joints: &[u64],
+    room: &mut [u32],
+    p: Parser,
+    mode: u8,
+    left: u32,
+    first: Completed,
+) -> Done
+    requires { ⌜ Fit p ⌝ }
+    ensures { λ r. ⌜ Does (env (now (kinds .entry)) (now (joints .entry))) (E.indexed (counted (tableOf mode) left) first) (view p (now (room .entry))) (r .cm) (view (r .p) (now (room .exit))) ⌝ }
+{
+    if first.kind == k::IDENTIFIER {
+        return ids(kinds, joints, room, p, mode, left, first);
+    }
+    let p1 = expressions::unindexed(room, p, first.kind);
+    let p2 = p1.must(kinds, joints, room, k::L_BRACK);
+    let s = p2.precede(room, first);
+    let p3 = s.p;
+    let p4 = subs(kinds, joints, room, p3, mode, left);
+    p4.complete(room, s.m, k::INDEX_EXPR)
+}
+
 // call_expr
 fn call(
     kinds: &[u16],
@@ -277,789 +1021,8 @@ fn call(
     p4.complete(room, s.m, k::CALL_EXPR)
 }
 
-// postfix_expr at `[`: indexed_identifier, or index_expr with or without an error
-fn idx(
-    kinds: &[u16],
-    joints: &[u64],
-    room: &mut [u32],
-    p: Parser,
-    mode: u8,
-    left: u32,
-    first: Completed,
-) -> Done
-    requires { ⌜ Fit p ⌝ }
-    ensures { λ r. ⌜ Does (env (now (kinds .entry)) (now (joints .entry))) (E.indexed (counted (tableOf mode) left) first) (view p (now (room .entry))) (r .cm) (view (r .p) (now (room .exit))) ⌝ }
-{
-    if first.kind == k::IDENTIFIER {
-        return ids(kinds, joints, room, p, mode, left, first);
-    }
-    let p1 = expressions::unindexed(room, p, first.kind);
-    let p2 = p1.must(kinds, joints, room, k::L_BRACK);
-    let s = p2.precede(room, first);
-    let p3 = s.p;
-    let p4 = subs(kinds, joints, room, p3, mode, left);
-    p4.complete(room, s.m, k::INDEX_EXPR)
-}
-
-// indexed_identifier
-fn ids(
-    kinds: &[u16],
-    joints: &[u64],
-    room: &mut [u32],
-    p: Parser,
-    mode: u8,
-    left: u32,
-    first: Completed,
-) -> Done
-    requires { ⌜ Fit p ⌝ }
-    ensures { λ r. ⌜ Does (env (now (kinds .entry)) (now (joints .entry))) (E.indexedIdentifier (counted (tableOf mode) left) first) (view p (now (room .entry))) (r .cm) (view (r .p) (now (room .exit))) ⌝ }
-{
-    let p1 = p.must(kinds, joints, room, k::L_BRACK);
-    let s = p1.precede(room, first);
-    let m = s.m;
-    let mut q = s.p;
-    while q.at(kinds, joints, k::L_BRACK) {
-        q = subs(kinds, joints, room, q, mode, left);
-    }
-    q.complete(room, m, k::INDEXED_IDENTIFIER)
-}
-
-// index_operator
-fn subs(kinds: &[u16], joints: &[u64], room: &mut [u32], p: Parser, mode: u8, left: u32) -> Parser
-    requires { ⌜ Fit p ⌝ }
-    ensures { λ r. ⌜ Does (env (now (kinds .entry)) (now (joints .entry))) (E.indexOperator (counted (tableOf mode) left)) (view p (now (room .entry))) tt (view r (now (room .exit))) ⌝ }
-{
-    let p1 = p.must(kinds, joints, room, k::L_BRACK);
-    let s = p1.start(room);
-    let p2 = s.p;
-    let t = p2.expect(kinds, joints, room, k::L_BRACK);
-    let p3 = t.p;
-    if p3.at(kinds, joints, k::L_CURLY) {
-        let p4 = set(kinds, joints, room, p3, mode, left);
-        let u = p4.expect(kinds, joints, room, k::R_BRACK);
-        let p5 = u.p;
-        let d = p5.complete(room, s.m, k::INDEX_OPERATOR);
-        return d.p;
-    }
-    let p6 = els(kinds, joints, room, p3, mode, left);
-    let u = p6.expect(kinds, joints, room, k::R_BRACK);
-    let p7 = u.p;
-    let d = p7.complete(room, s.m, k::INDEX_OPERATOR);
-    d.p
-}
-
-// set_expression
-fn set(kinds: &[u16], joints: &[u64], room: &mut [u32], p: Parser, mode: u8, left: u32) -> Parser
-    requires { ⌜ Fit p ⌝ }
-    ensures { λ r. ⌜ Does (env (now (kinds .entry)) (now (joints .entry))) (E.setExpression (counted (tableOf mode) left)) (view p (now (room .entry))) tt (view r (now (room .exit))) ⌝ }
-{
-    let p1 = p.must(kinds, joints, room, k::L_CURLY);
-    let s = p1.start(room);
-    let p2 = s.p;
-    let p3 = p2.bump(kinds, joints, room, k::L_CURLY);
-    let p4 = els(kinds, joints, room, p3, mode, left);
-    let p5 = p4.bump(kinds, joints, room, k::R_CURLY);
-    let d = p5.complete(room, s.m, k::SET_EXPRESSION);
-    d.p
-}
-
-// call_arg_list, with its use of `delimited`
-fn args(kinds: &[u16], joints: &[u64], room: &mut [u32], p: Parser, mode: u8, left: u32) -> Parser
-    requires { ⌜ Fit p ⌝ }
-    ensures { λ r. ⌜ Does (env (now (kinds .entry)) (now (joints .entry))) (E.callArgList (counted (tableOf mode) left)) (view p (now (room .entry))) tt (view r (now (room .exit))) ⌝ }
-{
-    let p1 = p.must(kinds, joints, room, k::L_PAREN);
-    let s = p1.start(room);
-    let p2 = s.p;
-    let m = s.m;
-    let s1 = p2.start(room);
-    let p3 = s1.p;
-    let m1 = s1.m;
-    let mut q = p3.bump(kinds, joints, room, k::L_PAREN);
-    while q.goes_on(kinds, joints, k::R_PAREN) {
-        let e = expr_bp(kinds, joints, room, q, mode, left, Mark::Fresh, false, 1);
-        let q1 = e.p;
-        let g = e.got;
-        let Got::Is(_, _) = g else {
-            return expressions::args_end(kinds, joints, room, q1, m, m1);
-        };
-        let t = grammar::separator(kinds, joints, room, q1, k::COMMA, Fixed::ExprFirst);
-        q = t.p;
-        if t.yes {
-            continue;
-        }
-        return expressions::args_end(kinds, joints, room, q, m, m1);
-    }
-    expressions::args_end(kinds, joints, room, q, m, m1)
-}
-
-// expression_list
-fn els(kinds: &[u16], joints: &[u64], room: &mut [u32], p: Parser, mode: u8, left: u32) -> Parser
-    requires { ⌜ Fit p ⌝ }
-    ensures { λ r. ⌜ Does (env (now (kinds .entry)) (now (joints .entry))) (counted (tableOf mode) left .expressionList) (view p (now (room .entry))) tt (view r (now (room .exit))) ⌝ }
-{
-    if left == 0 {
-        return p.stop(room, Stop::Deep);
-    }
-    let d = left - 1;
-    list(kinds, joints, room, p, mode, d, DefFlavor::ExpressionList)
-}
-
-// _param_list_openqasm
-fn list(
-    kinds: &[u16],
-    joints: &[u64],
-    room: &mut [u32],
-    p: Parser,
-    mode: u8,
-    left: u32,
-    flavor: DefFlavor,
-) -> Parser
-    requires { ⌜ Fit p ⌝ }
-    ensures { λ r. ⌜ Does (env (now (kinds .entry)) (now (joints .entry))) (P.paramListOpenqasm (counted (tableOf mode) left) flavor) (view p (now (room .entry))) tt (view r (now (room .exit))) ⌝ }
-{
-    let shape = params::shape_of(flavor);
-    let how = shape.how;
-    let s = params::list_open(kinds, joints, room, p, shape);
-    let m = s.m;
-    let mut q = s.p;
-    let mut n: u32 = 0;
-    while params::list_goes(kinds, joints, q, shape) {
-        let s1 = q.start(room);
-        let q1 = s1.p;
-        let b = params::param_ahead(kinds, joints, q1);
-        let q2 = b.p;
-        if b.yes {
-            let f = par(kinds, joints, room, q2, mode, left, how, s1.m);
-            let q3 = f.p;
-            if f.yes {
-                n = n + 1;
-                let t = params::list_next(kinds, joints, room, q3, shape);
-                q = t.p;
-                if t.yes {
-                    continue;
-                }
-                return params::list_end(kinds, joints, room, q, m, shape, n);
-            }
-            return params::list_end(kinds, joints, room, q3, m, shape, n);
-        }
-        let q4 = q2.error(room, say::EXPECTED_VALUE_PARAMETER, 0);
-        let q5 = q4.abandon(room, s1.m);
-        return params::list_end(kinds, joints, room, q5, m, shape, n);
-    }
-    params::list_end(kinds, joints, room, q, m, shape, n)
-}
-
-// one parameter of _param_list_openqasm: expr_or_range_expr, arg_gate_call_qubit, param_typed or param_untyped
-fn par(
-    kinds: &[u16],
-    joints: &[u64],
-    room: &mut [u32],
-    p: Parser,
-    mode: u8,
-    left: u32,
-    how: How,
-    m: u32,
-) -> Told
-    requires { ⌜ Fit p ⌝ }
-    ensures { λ r. ⌜ Does (env (now (kinds .entry)) (now (joints .entry))) (P.foundParam (counted (tableOf mode) left) how m) (view p (now (room .entry))) (r .yes) (view (r .p) (now (room .exit))) ⌝ }
-{
-    match how {
-        How::Expr => {
-            let p1 = p.abandon(room, m);
-            let s = p1.start(room);
-            let p2 = s.p;
-            let e = expr_bp(kinds, joints, room, p2, mode, left, Mark::Fresh, false, 1);
-            let p3 = e.p;
-            if p3.at(kinds, joints, k::COLON) {
-                let p4 = p3.bump(kinds, joints, room, k::COLON);
-                let e1 = expr_bp(kinds, joints, room, p4, mode, left, Mark::Fresh, false, 1);
-                let p5 = e1.p;
-                if p5.at(kinds, joints, k::COLON) {
-                    let p6 = p5.bump(kinds, joints, room, k::COLON);
-                    let e2 = expr_bp(kinds, joints, room, p6, mode, left, Mark::Fresh, false, 1);
-                    let p7 = e2.p;
-                    let d = p7.complete(room, s.m, k::RANGE_EXPR);
-                    let p8 = d.p;
-                    return Told { p: p8, yes: true };
-                }
-                let d = p5.complete(room, s.m, k::RANGE_EXPR);
-                let p9 = d.p;
-                return Told { p: p9, yes: true };
-            }
-            let p10 = p3.abandon(room, s.m);
-            return Told { p: p10, yes: true };
-        }
-        How::Qubit => {
-            return qarg(kinds, joints, room, p, mode, left, m);
-        }
-        How::Typed => {
-            let p1 = type_spec(kinds, joints, room, p, mode, left);
-            let p2 = expressions::var_name(kinds, joints, room, p1);
-            let d = p2.complete(room, m, k::TYPED_PARAM);
-            let p3 = d.p;
-            return Told { p: p3, yes: true };
-        }
-        How::Untyped => {
-            return params::param_untyped(kinds, joints, room, p, m);
-        }
-    }
-}
-
-// arg_gate_call_qubit
-fn qarg(
-    kinds: &[u16],
-    joints: &[u64],
-    room: &mut [u32],
-    p: Parser,
-    mode: u8,
-    left: u32,
-    m: u32,
-) -> Told
-    requires { ⌜ Fit p ⌝ }
-    ensures { λ r. ⌜ Does (env (now (kinds .entry)) (now (joints .entry))) (P.argGateCallQubit (counted (tableOf mode) left) m) (view p (now (room .entry))) (r .yes) (view (r .p) (now (room .exit))) ⌝ }
-{
-    if p.at(kinds, joints, k::HARDWAREIDENT) {
-        let p1 = p.bump(kinds, joints, room, k::HARDWAREIDENT);
-        let d = p1.complete(room, m, k::HARDWARE_QUBIT);
-        let p2 = d.p;
-        return Told { p: p2, yes: true };
-    }
-    if p.at(kinds, joints, k::IDENT) {
-        let p3 = p.bump(kinds, joints, room, k::IDENT);
-        let d = p3.complete(room, m, k::IDENTIFIER);
-        let p4 = d.p;
-        let cm = d.cm;
-        if p4.at(kinds, joints, k::L_BRACK) {
-            let x = ids(kinds, joints, room, p4, mode, left, cm);
-            let p5 = x.p;
-            return Told { p: p5, yes: true };
-        }
-        return Told { p: p4, yes: true };
-    }
-    let p6 = p.error(room, say::EXPECTED_NAME_IN_QUBIT_ARGUMENT, 0);
-    let p7 = p6.abandon(room, m);
-    Told { p: p7, yes: false }
-}
-
-// atom_expr
-fn atom(kinds: &[u16], joints: &[u64], room: &mut [u32], p: Parser, mode: u8, left: u32) -> Parsed
-    requires { ⌜ Fit p ⌝ }
-    ensures { λ r. ⌜ Does (env (now (kinds .entry)) (now (joints .entry))) (atoms.atomExpr (counted (tableOf mode) left)) (view p (now (room .entry))) (r .got) (view (r .p) (now (room .exit))) ⌝ }
-{
-    let g = atom::literal(kinds, joints, room, p);
-    let p1 = g.p;
-    let got = g.got;
-    if let Got::Is(cm, _) = got {
-        return Parsed {
-            p: p1,
-            got: Got::Is(cm, false),
-        };
-    }
-    let la = p1.nth(kinds, joints, 1);
-    let p2 = la.p;
-    let l = p2.current(kinds, joints);
-    let p4 = l.p;
-    if kind::is_classical_type(l.kind) {
-        let d = cast(kinds, joints, room, p4, mode, left);
-        let q = d.p;
-        let cm = d.cm;
-        return Parsed {
-            p: q,
-            got: Got::Is(cm, false),
-        };
-    }
-    let l2 = p4.current(kinds, joints);
-    let p3 = l2.p;
-    let first = l2.kind;
-    let next = la.kind;
-    match first {
-        k::HARDWAREIDENT => {
-            let d = atom::hardware_qubit(kinds, joints, room, p3);
-            let q = d.p;
-            let cm = d.cm;
-            return Parsed {
-                p: q,
-                got: Got::Is(cm, cm.kind == k::BLOCK_EXPR),
-            };
-        }
-        k::L_PAREN => {
-            let d = tup(kinds, joints, room, p3, mode, left);
-            let q = d.p;
-            let cm = d.cm;
-            return Parsed {
-                p: q,
-                got: Got::Is(cm, cm.kind == k::BLOCK_EXPR),
-            };
-        }
-        k::L_BRACK => {
-            let d = arr(kinds, joints, room, p3, mode, left);
-            let q = d.p;
-            let cm = d.cm;
-            return Parsed {
-                p: q,
-                got: Got::Is(cm, cm.kind == k::BLOCK_EXPR),
-            };
-        }
-        k::BOX_KW => {
-            let d = bx(kinds, joints, room, p3, mode, left);
-            let q = d.p;
-            let cm = d.cm;
-            return Parsed {
-                p: q,
-                got: Got::Is(cm, cm.kind == k::BLOCK_EXPR),
-            };
-        }
-        k::MEASURE_KW => {
-            let d = meas(kinds, joints, room, p3, mode, left);
-            let q = d.p;
-            let cm = d.cm;
-            return Parsed {
-                p: q,
-                got: Got::Is(cm, cm.kind == k::BLOCK_EXPR),
-            };
-        }
-        k::RETURN_KW => {
-            let d = ret(kinds, joints, room, p3, mode, left);
-            let q = d.p;
-            let cm = d.cm;
-            return Parsed {
-                p: q,
-                got: Got::Is(cm, cm.kind == k::BLOCK_EXPR),
-            };
-        }
-        k::L_CURLY => {
-            let d = blk(kinds, joints, room, p3, mode, left);
-            let q = d.p;
-            let cm = d.cm;
-            return Parsed {
-                p: q,
-                got: Got::Is(cm, cm.kind == k::BLOCK_EXPR),
-            };
-        }
-        k::INV_KW => {
-            let d = mods(kinds, joints, room, p3, mode, left);
-            let q = d.p;
-            let cm = d.cm;
-            return Parsed {
-                p: q,
-                got: Got::Is(cm, cm.kind == k::BLOCK_EXPR),
-            };
-        }
-        k::POW_KW => {
-            let d = mods(kinds, joints, room, p3, mode, left);
-            let q = d.p;
-            let cm = d.cm;
-            return Parsed {
-                p: q,
-                got: Got::Is(cm, cm.kind == k::BLOCK_EXPR),
-            };
-        }
-        k::CTRL_KW => {
-            let d = mods(kinds, joints, room, p3, mode, left);
-            let q = d.p;
-            let cm = d.cm;
-            return Parsed {
-                p: q,
-                got: Got::Is(cm, cm.kind == k::BLOCK_EXPR),
-            };
-        }
-        k::NEGCTRL_KW => {
-            let d = mods(kinds, joints, room, p3, mode, left);
-            let q = d.p;
-            let cm = d.cm;
-            return Parsed {
-                p: q,
-                got: Got::Is(cm, cm.kind == k::BLOCK_EXPR),
-            };
-        }
-        k::GPHASE_KW => {
-            let d = gph(kinds, joints, room, p3, mode, left);
-            let q = d.p;
-            let cm = d.cm;
-            return Parsed {
-                p: q,
-                got: Got::Is(cm, cm.kind == k::BLOCK_EXPR),
-            };
-        }
-        k::IDENT => {
-            if Fixed::QubitFirst.has(next) {
-                let d = gate(kinds, joints, room, p3, mode, left);
-                let q = d.p;
-                let cm = d.cm;
-                return Parsed {
-                    p: q,
-                    got: Got::Is(cm, cm.kind == k::BLOCK_EXPR),
-                };
-            }
-            let d = atom::identifier(kinds, joints, room, p3);
-            let q = d.p;
-            let cm = d.cm;
-            return Parsed {
-                p: q,
-                got: Got::Is(cm, cm.kind == k::BLOCK_EXPR),
-            };
-        }
-        _ => {
-            let q = p3.err_and_bump(kinds, joints, room, say::ATOM_EXPR_EXPECTED_EXPRESSION);
-            return Parsed {
-                p: q,
-                got: Got::Nothing,
-            };
-        }
-    }
-}
-
-// cast_expr
-fn cast(kinds: &[u16], joints: &[u64], room: &mut [u32], p: Parser, mode: u8, left: u32) -> Done
-    requires { ⌜ Fit p ⌝ }
-    ensures { λ r. ⌜ Does (env (now (kinds .entry)) (now (joints .entry))) (atoms.castExpr (counted (tableOf mode) left)) (view p (now (room .entry))) (r .cm) (view (r .p) (now (room .exit))) ⌝ }
-{
-    let s = p.start(room);
-    let p1 = s.p;
-    let p2 = type_spec(kinds, joints, room, p1, mode, left);
-    let t = p2.expect(kinds, joints, room, k::L_PAREN);
-    let p3 = t.p;
-    let e = expr_bp(kinds, joints, room, p3, mode, left, Mark::Fresh, false, 1);
-    let p4 = e.p;
-    let u = p4.expect(kinds, joints, room, k::R_PAREN);
-    let p5 = u.p;
-    p5.complete(room, s.m, k::CAST_EXPRESSION)
-}
-
-// gphase_call_expr
-fn gph(kinds: &[u16], joints: &[u64], room: &mut [u32], p: Parser, mode: u8, left: u32) -> Done
-    requires { ⌜ Fit p ⌝ }
-    ensures { λ r. ⌜ Does (env (now (kinds .entry)) (now (joints .entry))) (atoms.gphaseCallExpr (counted (tableOf mode) left)) (view p (now (room .entry))) (r .cm) (view (r .p) (now (room .exit))) ⌝ }
-{
-    let p1 = p.must(kinds, joints, room, k::GPHASE_KW);
-    let s = p1.start(room);
-    let p2 = s.p;
-    let p3 = p2.bump(kinds, joints, room, k::GPHASE_KW);
-    let e = expr_bp(kinds, joints, room, p3, mode, left, Mark::Fresh, false, 1);
-    let p4 = e.p;
-    p4.complete(room, s.m, k::G_PHASE_CALL_EXPR)
-}
-
-// measure_expression
-fn meas(kinds: &[u16], joints: &[u64], room: &mut [u32], p: Parser, mode: u8, left: u32) -> Done
-    requires { ⌜ Fit p ⌝ }
-    ensures { λ r. ⌜ Does (env (now (kinds .entry)) (now (joints .entry))) (atoms.measureExpression (counted (tableOf mode) left)) (view p (now (room .entry))) (r .cm) (view (r .p) (now (room .exit))) ⌝ }
-{
-    let s = p.start(room);
-    let p1 = s.p;
-    let p2 = p1.bump(kinds, joints, room, k::MEASURE_KW);
-    let l = p2.current(kinds, joints);
-    let p3 = l.p;
-    if Fixed::QubitFirst.has(l.kind) {
-        let s1 = p3.start(room);
-        let p4 = s1.p;
-        let x = qarg(kinds, joints, room, p4, mode, left, s1.m);
-        let p5 = x.p;
-        return p5.complete(room, s.m, k::MEASURE_EXPRESSION);
-    }
-    let p6 = p3.error(room, say::EXPECTING_QUBIT_S_TO_MEASURE, 0);
-    p6.complete(room, s.m, k::MEASURE_EXPRESSION)
-}
-
-// return_expr
-fn ret(kinds: &[u16], joints: &[u64], room: &mut [u32], p: Parser, mode: u8, left: u32) -> Done
-    requires { ⌜ Fit p ⌝ }
-    ensures { λ r. ⌜ Does (env (now (kinds .entry)) (now (joints .entry))) (atoms.returnExpr (counted (tableOf mode) left)) (view p (now (room .entry))) (r .cm) (view (r .p) (now (room .exit))) ⌝ }
-{
-    let p1 = p.must(kinds, joints, room, k::RETURN_KW);
-    let s = p1.start(room);
-    let p2 = s.p;
-    let p3 = p2.bump_any(kinds, joints, room);
-    let t = p3.at_ts(kinds, joints, Fixed::ExprFirst);
-    let p4 = t.p;
-    if t.yes {
-        let e = expr_bp(kinds, joints, room, p4, mode, left, Mark::Fresh, false, 1);
-        let p5 = e.p;
-        return p5.complete(room, s.m, k::RETURN_EXPR);
-    }
-    p4.complete(room, s.m, k::RETURN_EXPR)
-}
-
-// box_expr
-fn bx(kinds: &[u16], joints: &[u64], room: &mut [u32], p: Parser, mode: u8, left: u32) -> Done
-    requires { ⌜ Fit p ⌝ }
-    ensures { λ r. ⌜ Does (env (now (kinds .entry)) (now (joints .entry))) (atoms.boxExpr (counted (tableOf mode) left)) (view p (now (room .entry))) (r .cm) (view (r .p) (now (room .exit))) ⌝ }
-{
-    let p1 = p.must(kinds, joints, room, k::BOX_KW);
-    let s = p1.start(room);
-    let p2 = s.p;
-    let p3 = p2.bump(kinds, joints, room, k::BOX_KW);
-    let t = p3.at_ts(kinds, joints, Fixed::ExprFirst);
-    let p4 = t.p;
-    if t.yes {
-        let e = expr_bp(kinds, joints, room, p4, mode, left, Mark::Fresh, false, 1);
-        let p5 = e.p;
-        return p5.complete(room, s.m, k::BOX_EXPR);
-    }
-    p4.complete(room, s.m, k::BOX_EXPR)
-}
-
-// gate_call_expr
-fn gate(kinds: &[u16], joints: &[u64], room: &mut [u32], p: Parser, mode: u8, left: u32) -> Done
-    requires { ⌜ Fit p ⌝ }
-    ensures { λ r. ⌜ Does (env (now (kinds .entry)) (now (joints .entry))) (atoms.gateCallExpr (counted (tableOf mode) left)) (view p (now (room .entry))) (r .cm) (view (r .p) (now (room .exit))) ⌝ }
-{
-    let s = p.start(room);
-    let p1 = s.p;
-    let i = atom::identifier(kinds, joints, room, p1);
-    let p2 = i.p;
-    if p2.at(kinds, joints, k::L_PAREN) {
-        let p3 = args(kinds, joints, room, p2, mode, left);
-        let p4 = list(
-            kinds,
-            joints,
-            room,
-            p3,
-            mode,
-            left,
-            DefFlavor::GateCallQubits,
-        );
-        return p4.complete(room, s.m, k::GATE_CALL_EXPR);
-    }
-    let p5 = list(
-        kinds,
-        joints,
-        room,
-        p2,
-        mode,
-        left,
-        DefFlavor::GateCallQubits,
-    );
-    p5.complete(room, s.m, k::GATE_CALL_EXPR)
-}
-
-// modified_gate_call_expr
-fn mods(kinds: &[u16], joints: &[u64], room: &mut [u32], p: Parser, mode: u8, left: u32) -> Done
-    requires { ⌜ Fit p ⌝ }
-    ensures { λ r. ⌜ Does (env (now (kinds .entry)) (now (joints .entry))) (atoms.modifiedGateCallExpr (counted (tableOf mode) left)) (view p (now (room .entry))) (r .cm) (view (r .p) (now (room .exit))) ⌝ }
-{
-    let s = p.start(room);
-    let m = s.m;
-    let mut q = s.p;
-    loop {
-        let l = q.current(kinds, joints);
-        let q1 = l.p;
-        let kw = l.kind;
-        match kw {
-            k::INV_KW => {
-                q = atom::inv_modifier(kinds, joints, room, q1);
-            }
-            k::POW_KW => {
-                q = ctl(
-                    kinds,
-                    joints,
-                    room,
-                    q1,
-                    mode,
-                    left,
-                    k::POW_KW,
-                    k::POW_MODIFIER,
-                );
-            }
-            k::CTRL_KW => {
-                q = ctl(
-                    kinds,
-                    joints,
-                    room,
-                    q1,
-                    mode,
-                    left,
-                    k::CTRL_KW,
-                    k::CTRL_MODIFIER,
-                );
-            }
-            k::NEGCTRL_KW => {
-                q = ctl(
-                    kinds,
-                    joints,
-                    room,
-                    q1,
-                    mode,
-                    left,
-                    k::NEGCTRL_KW,
-                    k::NEG_CTRL_MODIFIER,
-                );
-            }
-            _ => {
-                if q1.at(kinds, joints, k::GPHASE_KW) {
-                    let d = gph(kinds, joints, room, q1, mode, left);
-                    let q2 = d.p;
-                    return q2.complete(room, m, k::MODIFIED_GATE_CALL_EXPR);
-                }
-                let d = gate(kinds, joints, room, q1, mode, left);
-                let q2 = d.p;
-                return q2.complete(room, m, k::MODIFIED_GATE_CALL_EXPR);
-            }
-        }
-    }
-}
-
-// the modifiers `pow`, `ctrl` and `negctrl` of modified_gate_call_expr
-fn ctl(
-    kinds: &[u16],
-    joints: &[u64],
-    room: &mut [u32],
-    p: Parser,
-    mode: u8,
-    left: u32,
-    kw: u16,
-    node: u16,
-) -> Parser
-    requires { ⌜ Fit p ⌝ }
-    ensures { λ r. ⌜ Does (env (now (kinds .entry)) (now (joints .entry))) (atoms.modifier (counted (tableOf mode) left) kw node) (view p (now (room .entry))) tt (view r (now (room .exit))) ⌝ }
-{
-    let s1 = p.start(room);
-    let p1 = s1.p;
-    let p2 = p1.bump(kinds, joints, room, kw);
-    if p2.at(kinds, joints, k::L_PAREN) {
-        let s2 = p2.start(room);
-        let p3 = s2.p;
-        let t = p3.expect(kinds, joints, room, k::L_PAREN);
-        let p4 = t.p;
-        let e = expr_bp(kinds, joints, room, p4, mode, left, Mark::Fresh, false, 1);
-        let p5 = e.p;
-        let u = p5.expect(kinds, joints, room, k::R_PAREN);
-        let p6 = u.p;
-        let d = p6.complete(room, s2.m, k::PAREN_EXPR);
-        let p7 = d.p;
-        let w = p7.expect(kinds, joints, room, k::AT);
-        let p8 = w.p;
-        let c = p8.complete(room, s1.m, node);
-        let p9 = c.p;
-        return p9;
-    }
-    let p10 = atom::no_argument(room, p2, kw);
-    let t = p10.expect(kinds, joints, room, k::AT);
-    let p11 = t.p;
-    let t = p11.complete(room, s1.m, node);
-    let p12 = t.p;
-    p12
-}
-
-// tuple_expr
-fn tup(kinds: &[u16], joints: &[u64], room: &mut [u32], p: Parser, mode: u8, left: u32) -> Done
-    requires { ⌜ Fit p ⌝ }
-    ensures { λ r. ⌜ Does (env (now (kinds .entry)) (now (joints .entry))) (atoms.tupleExpr (counted (tableOf mode) left)) (view p (now (room .entry))) (r .cm) (view (r .p) (now (room .exit))) ⌝ }
-{
-    let p1 = p.must(kinds, joints, room, k::L_PAREN);
-    let s = p1.start(room);
-    let p2 = s.p;
-    let m = s.m;
-    let t = p2.expect(kinds, joints, room, k::L_PAREN);
-    let p3 = t.p;
-    let c = atom::tuple_comma(kinds, joints, room, p3);
-    let mut q = c.p;
-    let mut comma = c.yes;
-    let mut saw = false;
-    while q.goes_on(kinds, joints, k::R_PAREN) {
-        saw = true;
-        let e = expr_bp(kinds, joints, room, q, mode, left, Mark::Fresh, false, 1);
-        let q1 = e.p;
-        let g = e.got;
-        let Got::Is(_, _) = g else {
-            return atom::tuple_end(kinds, joints, room, q1, m, saw, comma);
-        };
-        let n = atom::tuple_next(kinds, joints, room, q1, comma);
-        q = n.p;
-        comma = n.yes;
-    }
-    atom::tuple_end(kinds, joints, room, q, m, saw, comma)
-}
-
-// array_expr
-fn arr(kinds: &[u16], joints: &[u64], room: &mut [u32], p: Parser, mode: u8, left: u32) -> Done
-    requires { ⌜ Fit p ⌝ }
-    ensures { λ r. ⌜ Does (env (now (kinds .entry)) (now (joints .entry))) (atoms.arrayExpr (counted (tableOf mode) left)) (view p (now (room .entry))) (r .cm) (view (r .p) (now (room .exit))) ⌝ }
-{
-    let p1 = p.must(kinds, joints, room, k::L_BRACK);
-    let s = p1.start(room);
-    let p2 = s.p;
-    let m = s.m;
-    let mut q = p2.bump(kinds, joints, room, k::L_BRACK);
-    let mut first = true;
-    let mut semi = false;
-    while q.goes_on(kinds, joints, k::R_BRACK) {
-        let e = expr_bp(kinds, joints, room, q, mode, left, Mark::Fresh, false, 1);
-        let q1 = e.p;
-        let g = e.got;
-        let Got::Is(_, _) = g else {
-            return atom::array_end(kinds, joints, room, q1, m);
-        };
-        let n = atom::array_next(kinds, joints, room, q1, first, semi);
-        let q2 = n.p;
-        let next = n.next;
-        match next {
-            Next::Semi => {
-                q = q2;
-                first = false;
-                semi = true;
-            }
-            Next::Comma => {
-                q = q2;
-                first = false;
-            }
-            Next::Stop => {
-                return atom::array_end(kinds, joints, room, q2, m);
-            }
-        }
-    }
-    atom::array_end(kinds, joints, room, q, m)
-}
-
-// block_expr
-fn blk(kinds: &[u16], joints: &[u64], room: &mut [u32], p: Parser, mode: u8, left: u32) -> Done
-    requires { ⌜ Fit p ⌝ }
-    ensures { λ r. ⌜ Does (env (now (kinds .entry)) (now (joints .entry))) (atoms.blockExpr (counted (tableOf mode) left)) (view p (now (room .entry))) (r .cm) (view (r .p) (now (room .exit))) ⌝ }
-{
-    let p1 = p.must(kinds, joints, room, k::L_CURLY);
-    let s = p1.start(room);
-    let p2 = s.p;
-    let p3 = p2.bump(kinds, joints, room, k::L_CURLY);
-    let p4 = sts(kinds, joints, room, p3, mode, left);
-    let t = p4.expect(kinds, joints, room, k::R_CURLY);
-    let p5 = t.p;
-    p5.complete(room, s.m, k::BLOCK_EXPR)
-}
-
-// try_block_expr
-fn body(kinds: &[u16], joints: &[u64], room: &mut [u32], p: Parser, mode: u8, left: u32) -> Parser
-    requires { ⌜ Fit p ⌝ }
-    ensures { λ r. ⌜ Does (env (now (kinds .entry)) (now (joints .entry))) (atoms.tryBlockExpr (counted (tableOf mode) left)) (view p (now (room .entry))) tt (view r (now (room .exit))) ⌝ }
-{
-    if p.at(kinds, joints, k::L_CURLY) {
-        let d = blk(kinds, joints, room, p, mode, left);
-        return d.p;
-    }
-    p.error(room, say::EXPECTED_A_BLOCK, 0)
-}
-
-// expr_block_contents
-fn sts(kinds: &[u16], joints: &[u64], room: &mut [u32], p: Parser, mode: u8, left: u32) -> Parser
-    requires { ⌜ Fit p ⌝ }
-    ensures { λ r. ⌜ Does (env (now (kinds .entry)) (now (joints .entry))) (E.exprBlockContents (counted (tableOf mode) left)) (view p (now (room .entry))) tt (view r (now (room .exit))) ⌝ }
-{
-    let mut q = p;
-    while q.goes_on(kinds, joints, k::R_CURLY) {
-        q = stmt(kinds, joints, room, q, mode, left);
-    }
-    q
-}
-
 // type_spec, with array_type_spec
-fn type_spec(
-    kinds: &[u16],
-    joints: &[u64],
-    room: &mut [u32],
-    p: Parser,
-    mode: u8,
-    left: u32,
-) -> Parser
+fn spec(kinds: &[u16], joints: &[u64], room: &mut [u32], p: Parser, mode: u8, left: u32) -> Parser
     requires { ⌜ Fit p ⌝ }
     ensures { λ r. ⌜ Does (env (now (kinds .entry)) (now (joints .entry))) (counted (tableOf mode) left .typeSpec) (view p (now (room .entry))) tt (view r (now (room .exit))) ⌝ }
 {
@@ -1076,7 +1039,7 @@ fn type_spec(
         let t = p3.expect(kinds, joints, room, k::L_BRACK);
         let p4 = t.p;
         let p5 = expressions::array_base(kinds, joints, room, p4);
-        let p6 = type_spec(kinds, joints, room, p5, mode, d);
+        let p6 = spec(kinds, joints, room, p5, mode, d);
         let u = p6.expect(kinds, joints, room, k::COMMA);
         let mut q = u.p;
         loop {
@@ -1142,10 +1105,7 @@ fn cplx(kinds: &[u16], joints: &[u64], room: &mut [u32], p: Parser, mode: u8, le
             say::EXPECTING_FLOAT_IN_COMPLEX_DESIGNATOR,
         );
         let p6 = scal(kinds, joints, room, p5, mode, d);
-        let t = p6.expect(kinds, joints, room, k::R_BRACK);
-        let p7 = t.p;
-        let x = p7.complete(room, s.m, k::SCALAR_TYPE);
-        return x.p;
+        return grammar::close(kinds, joints, room, p6, k::R_BRACK, s.m, k::SCALAR_TYPE);
     }
     let x = p3.complete(room, s.m, k::SCALAR_TYPE);
     x.p
@@ -1163,14 +1123,99 @@ fn width(kinds: &[u16], joints: &[u64], room: &mut [u32], p: Parser, mode: u8, l
     let p4 = expressions::literal_designator(kinds, joints, room, p3);
     let e = expr_bp(kinds, joints, room, p4, mode, left, Mark::Fresh, false, 1);
     let p5 = e.p;
-    let t = p5.expect(kinds, joints, room, k::R_BRACK);
-    let p6 = t.p;
-    let d = p6.complete(room, s.m, k::DESIGNATOR);
+    grammar::close(kinds, joints, room, p5, k::R_BRACK, s.m, k::DESIGNATOR)
+}
+
+// indexed_identifier
+fn ids(
+    kinds: &[u16],
+    joints: &[u64],
+    room: &mut [u32],
+    p: Parser,
+    mode: u8,
+    left: u32,
+    first: Completed,
+) -> Done
+    requires { ⌜ Fit p ⌝ }
+    ensures { λ r. ⌜ Does (env (now (kinds .entry)) (now (joints .entry))) (E.indexedIdentifier (counted (tableOf mode) left) first) (view p (now (room .entry))) (r .cm) (view (r .p) (now (room .exit))) ⌝ }
+{
+    let p1 = p.must(kinds, joints, room, k::L_BRACK);
+    let s = p1.precede(room, first);
+    let m = s.m;
+    let mut q = s.p;
+    while q.at(kinds, joints, k::L_BRACK) {
+        q = subs(kinds, joints, room, q, mode, left);
+    }
+    q.complete(room, m, k::INDEXED_IDENTIFIER)
+}
+
+// set_expression
+fn set(kinds: &[u16], joints: &[u64], room: &mut [u32], p: Parser, mode: u8, left: u32) -> Parser
+    requires { ⌜ Fit p ⌝ }
+    ensures { λ r. ⌜ Does (env (now (kinds .entry)) (now (joints .entry))) (E.setExpression (counted (tableOf mode) left)) (view p (now (room .entry))) tt (view r (now (room .exit))) ⌝ }
+{
+    let p1 = p.must(kinds, joints, room, k::L_CURLY);
+    let s = p1.start(room);
+    let p2 = s.p;
+    let p3 = p2.bump(kinds, joints, room, k::L_CURLY);
+    let p4 = els(kinds, joints, room, p3, mode, left);
+    let p5 = p4.bump(kinds, joints, room, k::R_CURLY);
+    let d = p5.complete(room, s.m, k::SET_EXPRESSION);
     d.p
 }
 
-// the end of def_stmt and defcal_: opt_ret_type, and the body
-fn sig(
+// index_operator
+fn subs(kinds: &[u16], joints: &[u64], room: &mut [u32], p: Parser, mode: u8, left: u32) -> Parser
+    requires { ⌜ Fit p ⌝ }
+    ensures { λ r. ⌜ Does (env (now (kinds .entry)) (now (joints .entry))) (E.indexOperator (counted (tableOf mode) left)) (view p (now (room .entry))) tt (view r (now (room .exit))) ⌝ }
+{
+    let p1 = p.must(kinds, joints, room, k::L_BRACK);
+    let s = p1.start(room);
+    let p2 = s.p;
+    let t = p2.expect(kinds, joints, room, k::L_BRACK);
+    let p3 = t.p;
+    if p3.at(kinds, joints, k::L_CURLY) {
+        let p4 = set(kinds, joints, room, p3, mode, left);
+        return grammar::close(kinds, joints, room, p4, k::R_BRACK, s.m, k::INDEX_OPERATOR);
+    }
+    let p6 = els(kinds, joints, room, p3, mode, left);
+    grammar::close(kinds, joints, room, p6, k::R_BRACK, s.m, k::INDEX_OPERATOR)
+}
+
+// call_arg_list, with its use of `delimited`
+fn args(kinds: &[u16], joints: &[u64], room: &mut [u32], p: Parser, mode: u8, left: u32) -> Parser
+    requires { ⌜ Fit p ⌝ }
+    ensures { λ r. ⌜ Does (env (now (kinds .entry)) (now (joints .entry))) (E.callArgList (counted (tableOf mode) left)) (view p (now (room .entry))) tt (view r (now (room .exit))) ⌝ }
+{
+    let p1 = p.must(kinds, joints, room, k::L_PAREN);
+    let s = p1.start(room);
+    let p2 = s.p;
+    let m = s.m;
+    let s1 = p2.start(room);
+    let p3 = s1.p;
+    let m1 = s1.m;
+    let mut q = p3.bump(kinds, joints, room, k::L_PAREN);
+    while q.goes_on(kinds, joints, k::R_PAREN) {
+        let e = expr_bp(kinds, joints, room, q, mode, left, Mark::Fresh, false, 1);
+        let q1 = e.p;
+        let g = e.got;
+        let Got::Is(_, _) = g else {
+            return expressions::args_end(kinds, joints, room, q1, m, m1);
+        };
+        let t = grammar::separator(kinds, joints, room, q1, k::COMMA, Fixed::ExprFirst);
+        q = t.p;
+        if t.yes {
+            continue;
+        }
+        return expressions::args_end(kinds, joints, room, q, m, m1);
+    }
+    expressions::args_end(kinds, joints, room, q, m, m1)
+}
+
+// ---- src/grammar/items.rs
+
+// opt_item, with qubit_declaration_stmt, qubit_type_spec, while_stmt and cal_: the arms of its match before `reset`
+fn opt(
     kinds: &[u16],
     joints: &[u64],
     room: &mut [u32],
@@ -1178,37 +1223,229 @@ fn sig(
     mode: u8,
     left: u32,
     m: u32,
-    node: u16,
-) -> Parser
+) -> Told
     requires { ⌜ Fit p ⌝ }
-    ensures { λ r. ⌜ Does (env (now (kinds .entry)) (now (joints .entry))) (I.signature (counted (tableOf mode) left) m node) (view p (now (room .entry))) tt (view r (now (room .exit))) ⌝ }
+    ensures { λ r. ⌜ Does (env (now (kinds .entry)) (now (joints .entry))) (I.optItem (counted (tableOf mode) left) m) (view p (now (room .entry))) (r .yes) (view (r .p) (now (room .exit))) ⌝ }
 {
-    if p.at(kinds, joints, k::THIN_ARROW) {
-        let s = p.start(room);
-        let p1 = s.p;
-        let p2 = p1.bump(kinds, joints, room, k::THIN_ARROW);
-        let p3 = grammar::scalar_return(kinds, joints, room, p2);
-        let l = p3.current(kinds, joints);
-        let p4 = l.p;
-        if kind::is_type(l.kind) {
-            let p5 = type_spec(kinds, joints, room, p4, mode, left);
-            let d = p5.complete(room, s.m, k::RETURN_SIGNATURE);
-            let p6 = d.p;
-            let p7 = body(kinds, joints, room, p6, mode, left);
-            let x = p7.complete(room, m, node);
-            let p8 = x.p;
-            return p8;
-        }
-        let p9 = p4.abandon(room, s.m);
-        let p10 = body(kinds, joints, room, p9, mode, left);
-        let x = p10.complete(room, m, node);
-        let p11 = x.p;
-        return p11;
+    let la = p.nth(kinds, joints, 1);
+    let p1 = la.p;
+    let l = p1.current(kinds, joints);
+    let p2 = l.p;
+    if items::declares(l.kind, la.kind) {
+        let p3 = decl(kinds, joints, room, p2, mode, left, m);
+        return Told { p: p3, yes: true };
     }
-    let p12 = body(kinds, joints, room, p, mode, left);
-    let x = p12.complete(room, m, node);
-    let p13 = x.p;
-    p13
+    let l2 = p2.current(kinds, joints);
+    let p3 = l2.p;
+    let first = l2.kind;
+    match first {
+        k::QUBIT_KW => {
+            let p4 = p3.must(kinds, joints, room, k::QUBIT_KW);
+            let p5 = p4.must(kinds, joints, room, k::QUBIT_KW);
+            let s = p5.start(room);
+            let p6 = s.p;
+            let p7 = expressions::type_name(kinds, joints, room, p6);
+            if p7.at(kinds, joints, k::L_BRACK) {
+                let p8 = width(kinds, joints, room, p7, mode, left);
+                let p9 = grammar::fail_if_at(
+                    kinds,
+                    joints,
+                    room,
+                    p8,
+                    k::HARDWAREIDENT,
+                    say::FOUND_DESIGNATOR_IN_HARDWARE_QUBIT_DECLARATION,
+                );
+                let d = p9.complete(room, s.m, k::QUBIT_TYPE);
+                let p10 = d.p;
+                let p11 = items::qubit_end(kinds, joints, room, p10, m);
+                return Told { p: p11, yes: true };
+            }
+            let d = p7.complete(room, s.m, k::QUBIT_TYPE);
+            let p12 = d.p;
+            let p13 = items::qubit_end(kinds, joints, room, p12, m);
+            return Told { p: p13, yes: true };
+        }
+        k::CONST_KW => {
+            let p4 = decl(kinds, joints, room, p3, mode, left, m);
+            return Told { p: p4, yes: true };
+        }
+        k::GATE_KW => {
+            let p4 = gdef(kinds, joints, room, p3, mode, left, m);
+            return Told { p: p4, yes: true };
+        }
+        k::BREAK_KW => {
+            let p4 = items::break_(kinds, joints, room, p3, m);
+            return Told { p: p4, yes: true };
+        }
+        k::CONTINUE_KW => {
+            let p4 = items::continue_(kinds, joints, room, p3, m);
+            return Told { p: p4, yes: true };
+        }
+        k::END_KW => {
+            let p4 = items::end_(kinds, joints, room, p3, m);
+            return Told { p: p4, yes: true };
+        }
+        k::IF_KW => {
+            let p4 = ifs(kinds, joints, room, p3, mode, left, m);
+            return Told { p: p4, yes: true };
+        }
+        k::WHILE_KW => {
+            let p4 = p3.must(kinds, joints, room, k::WHILE_KW);
+            let p5 = p4.bump(kinds, joints, room, k::WHILE_KW);
+            let t = p5.expect(kinds, joints, room, k::L_PAREN);
+            let p6 = t.p;
+            let e = expr_bp(kinds, joints, room, p6, mode, left, Mark::Fresh, false, 1);
+            let p7 = e.p;
+            let u = p7.expect(kinds, joints, room, k::R_PAREN);
+            let p8 = u.p;
+            let p9 = body(kinds, joints, room, p8, mode, left);
+            let d = p9.complete(room, m, k::WHILE_STMT);
+            let p10 = d.p;
+            return Told { p: p10, yes: true };
+        }
+        k::FOR_KW => {
+            let p4 = fors(kinds, joints, room, p3, mode, left, m);
+            return Told { p: p4, yes: true };
+        }
+        k::DEF_KW => {
+            let p4 = def(kinds, joints, room, p3, mode, left, m);
+            return Told { p: p4, yes: true };
+        }
+        k::DEFCAL_KW => {
+            let p4 = dcal(kinds, joints, room, p3, mode, left, m);
+            return Told { p: p4, yes: true };
+        }
+        k::CAL_KW => {
+            let p4 = p3.bump(kinds, joints, room, k::CAL_KW);
+            let p5 = body(kinds, joints, room, p4, mode, left);
+            let d = p5.complete(room, m, k::CAL);
+            let p6 = d.p;
+            return Told { p: p6, yes: true };
+        }
+        k::DEFCALGRAMMAR_KW => {
+            let p4 = items::defcalgrammar_(kinds, joints, room, p3, m);
+            return Told { p: p4, yes: true };
+        }
+        _ => {
+            return more(kinds, joints, room, p3, mode, left, m, first);
+        }
+    }
+}
+
+// the arms of opt_item from `reset` on, with reset_stmt, barrier_, alias_stmt and delay_stmt
+fn more(
+    kinds: &[u16],
+    joints: &[u64],
+    room: &mut [u32],
+    p: Parser,
+    mode: u8,
+    left: u32,
+    m: u32,
+    first: u16,
+) -> Told
+    requires { ⌜ Fit p ⌝ }
+    ensures { λ r. ⌜ Does (env (now (kinds .entry)) (now (joints .entry))) (I.optItemMore (counted (tableOf mode) left) m first) (view p (now (room .entry))) (r .yes) (view (r .p) (now (room .exit))) ⌝ }
+{
+    match first {
+        k::RESET_KW => {
+            let p1 = p.bump(kinds, joints, room, k::RESET_KW);
+            let l = p1.current(kinds, joints);
+            let p2 = l.p;
+            if Fixed::QubitFirst.has(l.kind) {
+                let s = p2.start(room);
+                let p3 = s.p;
+                let x = qarg(kinds, joints, room, p3, mode, left, s.m);
+                let p4 = x.p;
+                let t = p4.expect(kinds, joints, room, k::SEMICOLON);
+                let p5 = t.p;
+                let d = p5.complete(room, m, k::RESET);
+                let p6 = d.p;
+                return Told { p: p6, yes: true };
+            }
+            let p7 = p2.error(room, say::EXPECTING_NAME_OF_QUBIT_OR_REGISTER_TO, 0);
+            let p8 = p7.abandon(room, m);
+            return Told { p: p8, yes: true };
+        }
+        k::BARRIER_KW => {
+            let p1 = p.bump(kinds, joints, room, k::BARRIER_KW);
+            if p1.at(kinds, joints, k::SEMICOLON) {
+                let t = p1.expect(kinds, joints, room, k::SEMICOLON);
+                let p2 = t.p;
+                let d = p2.complete(room, m, k::BARRIER);
+                let p3 = d.p;
+                return Told { p: p3, yes: true };
+            }
+            let p4 = list(
+                kinds,
+                joints,
+                room,
+                p1,
+                mode,
+                left,
+                DefFlavor::GateCallQubits,
+            );
+            let t = p4.expect(kinds, joints, room, k::SEMICOLON);
+            let p5 = t.p;
+            let d = p5.complete(room, m, k::BARRIER);
+            let p6 = d.p;
+            return Told { p: p6, yes: true };
+        }
+        k::O_P_E_N_Q_A_S_M_KW => {
+            let p1 = items::version_string(kinds, joints, room, p, m);
+            return Told { p: p1, yes: true };
+        }
+        k::INCLUDE_KW => {
+            let p1 = items::include(kinds, joints, room, p, m);
+            return Told { p: p1, yes: true };
+        }
+        k::SWITCH_KW => {
+            let p1 = sw(kinds, joints, room, p, mode, left, m);
+            return Told { p: p1, yes: true };
+        }
+        k::LET_KW => {
+            let p1 = p.must(kinds, joints, room, k::LET_KW);
+            let p2 = p1.bump_any(kinds, joints, room);
+            let p3 = grammar::name_r(kinds, joints, room, p2, Fixed::ItemRecoverySet);
+            let t = p3.expect(kinds, joints, room, k::EQ);
+            let p4 = t.p;
+            let e = expr_bp(kinds, joints, room, p4, mode, left, Mark::Fresh, false, 1);
+            let p5 = e.p;
+            let u = p5.expect(kinds, joints, room, k::SEMICOLON);
+            let p6 = u.p;
+            let d = p6.complete(room, m, k::ALIAS_DECLARATION_STATEMENT);
+            let p7 = d.p;
+            return Told { p: p7, yes: true };
+        }
+        k::DELAY_KW => {
+            let p1 = p.bump(kinds, joints, room, k::DELAY_KW);
+            let p2 = width(kinds, joints, room, p1, mode, left);
+            let p3 = list(
+                kinds,
+                joints,
+                room,
+                p2,
+                mode,
+                left,
+                DefFlavor::GateCallQubits,
+            );
+            let t = p3.expect(kinds, joints, room, k::SEMICOLON);
+            let p4 = t.p;
+            let d = p4.complete(room, m, k::DELAY_STMT);
+            let p5 = d.p;
+            return Told { p: p5, yes: true };
+        }
+        k::INPUT_KW => {
+            let p1 = io(kinds, joints, room, p, mode, left, m);
+            return Told { p: p1, yes: true };
+        }
+        k::OUTPUT_KW => {
+            let p1 = io(kinds, joints, room, p, mode, left, m);
+            return Told { p: p1, yes: true };
+        }
+        _ => {
+            return Told { p, yes: false };
+        }
+    }
 }
 
 // switch_case_stmt
@@ -1255,19 +1492,13 @@ fn sw(
     let p7 = w.p;
     if w.yes {
         let p8 = body(kinds, joints, room, p7, mode, left);
-        let x = p8.expect(kinds, joints, room, k::R_CURLY);
-        let p9 = x.p;
-        let y = p9.complete(room, m, k::SWITCH_CASE_STMT);
-        return y.p;
+        return grammar::close(kinds, joints, room, p8, k::R_CURLY, m, k::SWITCH_CASE_STMT);
     }
-    let x = p7.expect(kinds, joints, room, k::R_CURLY);
-    let p9 = x.p;
-    let y = p9.complete(room, m, k::SWITCH_CASE_STMT);
-    y.p
+    grammar::close(kinds, joints, room, p7, k::R_CURLY, m, k::SWITCH_CASE_STMT)
 }
 
 // if_stmt
-fn if_stmt(
+fn ifs(
     kinds: &[u16],
     joints: &[u64],
     room: &mut [u32],
@@ -1297,7 +1528,7 @@ fn if_stmt(
         if p7.at(kinds, joints, k::IF_KW) {
             let s = p7.start(room);
             let p8 = s.p;
-            let p9 = if_stmt(kinds, joints, room, p8, mode, d, s.m);
+            let p9 = ifs(kinds, joints, room, p8, mode, d, s.m);
             let x = p9.complete(room, m, k::IF_STMT);
             return x.p;
         }
@@ -1309,7 +1540,7 @@ fn if_stmt(
     x.p
 }
 
-// for_stmt, with range_expr
+// for_stmt
 fn fors(
     kinds: &[u16],
     joints: &[u64],
@@ -1324,7 +1555,7 @@ fn fors(
 {
     let p1 = p.must(kinds, joints, room, k::FOR_KW);
     let p2 = p1.bump(kinds, joints, room, k::FOR_KW);
-    let p3 = type_spec(kinds, joints, room, p2, mode, left);
+    let p3 = spec(kinds, joints, room, p2, mode, left);
     let p4 = grammar::name_r(kinds, joints, room, p3, Fixed::Empty);
     let t = p4.expect(kinds, joints, room, k::IN_KW);
     let p5 = t.p;
@@ -1335,42 +1566,12 @@ fn fors(
         return rest(kinds, joints, room, p7, mode, left, m, s.m);
     }
     if p6.at(kinds, joints, k::L_BRACK) {
-        let s2 = p6.start(room);
-        let p8 = s2.p;
-        let p9 = p8.must(kinds, joints, room, k::L_BRACK);
-        let p10 = p9.bump(kinds, joints, room, k::L_BRACK);
-        let e = expr_bp(kinds, joints, room, p10, mode, left, Mark::Fresh, false, 1);
-        let p11 = e.p;
-        if p11.at(kinds, joints, k::COLON) {
-            let p12 = p11.bump(kinds, joints, room, k::COLON);
-            let e2 = expr_bp(kinds, joints, room, p12, mode, left, Mark::Fresh, false, 1);
-            let p13 = e2.p;
-            if p13.at(kinds, joints, k::COLON) {
-                let p14 = p13.bump(kinds, joints, room, k::COLON);
-                let e3 = expr_bp(kinds, joints, room, p14, mode, left, Mark::Fresh, false, 1);
-                let p15 = e3.p;
-                let u = p15.expect(kinds, joints, room, k::R_BRACK);
-                let p16 = u.p;
-                let d = p16.complete(room, s2.m, k::RANGE_EXPR);
-                let p17 = d.p;
-                return rest(kinds, joints, room, p17, mode, left, m, s.m);
-            }
-            let u = p13.expect(kinds, joints, room, k::R_BRACK);
-            let p18 = u.p;
-            let d = p18.complete(room, s2.m, k::RANGE_EXPR);
-            let p19 = d.p;
-            return rest(kinds, joints, room, p19, mode, left, m, s.m);
-        }
-        let p20 = p11.error(room, say::EXPECTING_COLON_IN_RANGE_EXPRESSION, 0);
-        let u = p20.expect(kinds, joints, room, k::R_BRACK);
-        let p21 = u.p;
-        let d = p21.complete(room, s2.m, k::RANGE_EXPR);
-        let p22 = d.p;
-        return rest(kinds, joints, room, p22, mode, left, m, s.m);
+        let p8 = range(kinds, joints, room, p6, mode, left);
+        return rest(kinds, joints, room, p8, mode, left, m, s.m);
     }
     let e = expr_bp(kinds, joints, room, p6, mode, left, Mark::Fresh, false, 1);
-    let p23 = e.p;
-    rest(kinds, joints, room, p23, mode, left, m, s.m)
+    let p9 = e.p;
+    rest(kinds, joints, room, p9, mode, left, m, s.m)
 }
 
 // the end of for_stmt: its iterable, and its body
@@ -1452,6 +1653,94 @@ fn dcal(
     sig(kinds, joints, room, p5, mode, left, m, k::DEF_CAL)
 }
 
+// _returns_bool_classical_declaration_stmt
+fn decl(
+    kinds: &[u16],
+    joints: &[u64],
+    room: &mut [u32],
+    p: Parser,
+    mode: u8,
+    left: u32,
+    m: u32,
+) -> Parser
+    requires { ⌜ Fit p ⌝ }
+    ensures { λ r. ⌜ Does (env (now (kinds .entry)) (now (joints .entry))) (I.classicalDeclarationStmt (counted (tableOf mode) left) m) (view p (now (room .entry))) tt (view r (now (room .exit))) ⌝ }
+{
+    let t = p.eat(kinds, joints, room, k::CONST_KW);
+    let p1 = t.p;
+    let s = p1.start(room);
+    let p2 = s.p;
+    let p3 = spec(kinds, joints, room, p2, mode, left);
+    let l = p3.current(kinds, joints);
+    let p4 = l.p;
+    if l.kind == k::L_PAREN {
+        let u = p4.expect(kinds, joints, room, k::L_PAREN);
+        let p5 = u.p;
+        let e = expr_bp(kinds, joints, room, p5, mode, left, Mark::Fresh, false, 1);
+        let p6 = e.p;
+        let v = p6.expect(kinds, joints, room, k::R_PAREN);
+        let p7 = v.p;
+        let d = p7.complete(room, s.m, k::CAST_EXPRESSION);
+        let p8 = d.p;
+        if p8.at(kinds, joints, k::SEMICOLON) {
+            return grammar::close(kinds, joints, room, p8, k::SEMICOLON, m, k::EXPR_STMT);
+        }
+        return p8.abandon(room, m);
+    }
+    let p10 = p4.abandon(room, s.m);
+    let p11 = expressions::var_name(kinds, joints, room, p10);
+    let y = p11.eat(kinds, joints, room, k::SEMICOLON);
+    let p12 = y.p;
+    if y.yes {
+        let d = p12.complete(room, m, k::CLASSICAL_DECLARATION_STATEMENT);
+        return d.p;
+    }
+    let z = p12.expect(kinds, joints, room, k::EQ);
+    let p13 = z.p;
+    if z.yes {
+        let e = expr_bp(kinds, joints, room, p13, mode, left, Mark::Fresh, false, 1);
+        let p14 = e.p;
+        return grammar::close(
+            kinds,
+            joints,
+            room,
+            p14,
+            k::SEMICOLON,
+            m,
+            k::CLASSICAL_DECLARATION_STATEMENT,
+        );
+    }
+    p13.abandon(room, m)
+}
+
+// io_declaration_stmt
+fn io(
+    kinds: &[u16],
+    joints: &[u64],
+    room: &mut [u32],
+    p: Parser,
+    mode: u8,
+    left: u32,
+    m: u32,
+) -> Parser
+    requires { ⌜ Fit p ⌝ }
+    ensures { λ r. ⌜ Does (env (now (kinds .entry)) (now (joints .entry))) (I.ioDeclarationStmt (counted (tableOf mode) left) m) (view p (now (room .entry))) tt (view r (now (room .exit))) ⌝ }
+{
+    let p1 = p.bump_any(kinds, joints, room);
+    let p2 = items::io_type(kinds, joints, room, p1);
+    let p3 = spec(kinds, joints, room, p2, mode, left);
+    let p4 = expressions::var_name(kinds, joints, room, p3);
+    grammar::close(
+        kinds,
+        joints,
+        room,
+        p4,
+        k::SEMICOLON,
+        m,
+        k::I_O_DECLARATION_STATEMENT,
+    )
+}
+
 // def_stmt
 fn def(
     kinds: &[u16],
@@ -1474,356 +1763,4 @@ fn def(
     }
     let p5 = p3.error(room, say::EXPECTED_FUNCTION_ARGUMENTS_IN_DEF, 0);
     sig(kinds, joints, room, p5, mode, left, m, k::DEF)
-}
-
-// _returns_bool_classical_declaration_stmt
-fn decl(
-    kinds: &[u16],
-    joints: &[u64],
-    room: &mut [u32],
-    p: Parser,
-    mode: u8,
-    left: u32,
-    m: u32,
-) -> Parser
-    requires { ⌜ Fit p ⌝ }
-    ensures { λ r. ⌜ Does (env (now (kinds .entry)) (now (joints .entry))) (I.classicalDeclarationStmt (counted (tableOf mode) left) m) (view p (now (room .entry))) tt (view r (now (room .exit))) ⌝ }
-{
-    let t = p.eat(kinds, joints, room, k::CONST_KW);
-    let p1 = t.p;
-    let s = p1.start(room);
-    let p2 = s.p;
-    let p3 = type_spec(kinds, joints, room, p2, mode, left);
-    let l = p3.current(kinds, joints);
-    let p4 = l.p;
-    if l.kind == k::L_PAREN {
-        let u = p4.expect(kinds, joints, room, k::L_PAREN);
-        let p5 = u.p;
-        let e = expr_bp(kinds, joints, room, p5, mode, left, Mark::Fresh, false, 1);
-        let p6 = e.p;
-        let v = p6.expect(kinds, joints, room, k::R_PAREN);
-        let p7 = v.p;
-        let d = p7.complete(room, s.m, k::CAST_EXPRESSION);
-        let p8 = d.p;
-        if p8.at(kinds, joints, k::SEMICOLON) {
-            let w = p8.expect(kinds, joints, room, k::SEMICOLON);
-            let p9 = w.p;
-            let x = p9.complete(room, m, k::EXPR_STMT);
-            return x.p;
-        }
-        return p8.abandon(room, m);
-    }
-    let p10 = p4.abandon(room, s.m);
-    let p11 = expressions::var_name(kinds, joints, room, p10);
-    let y = p11.eat(kinds, joints, room, k::SEMICOLON);
-    let p12 = y.p;
-    if y.yes {
-        let d = p12.complete(room, m, k::CLASSICAL_DECLARATION_STATEMENT);
-        return d.p;
-    }
-    let z = p12.expect(kinds, joints, room, k::EQ);
-    let p13 = z.p;
-    if z.yes {
-        let e = expr_bp(kinds, joints, room, p13, mode, left, Mark::Fresh, false, 1);
-        let p14 = e.p;
-        let w = p14.expect(kinds, joints, room, k::SEMICOLON);
-        let p15 = w.p;
-        let d = p15.complete(room, m, k::CLASSICAL_DECLARATION_STATEMENT);
-        return d.p;
-    }
-    p13.abandon(room, m)
-}
-
-// stmt, with let_stmt
-fn stmt(kinds: &[u16], joints: &[u64], room: &mut [u32], p: Parser, mode: u8, left: u32) -> Parser
-    requires { ⌜ Fit p ⌝ }
-    ensures { λ r. ⌜ Does (env (now (kinds .entry)) (now (joints .entry))) (counted (tableOf mode) left .stmt) (view p (now (room .entry))) tt (view r (now (room .exit))) ⌝ }
-{
-    if left == 0 {
-        return p.stop(room, Stop::Deep);
-    }
-    let d = left - 1;
-    let t = p.eat(kinds, joints, room, k::SEMICOLON);
-    let p1 = t.p;
-    if t.yes {
-        return p1;
-    }
-    if p1.at(kinds, joints, k::LET_KW) {
-        let s = p1.start(room);
-        let p2 = s.p;
-        let p3 = p2.bump(kinds, joints, room, k::LET_KW);
-        let u = p3.expect(kinds, joints, room, k::IDENT);
-        let p4 = u.p;
-        let v = p4.expect(kinds, joints, room, k::EQ);
-        let p5 = v.p;
-        let e = expr_bp(kinds, joints, room, p5, mode, d, Mark::Fresh, false, 1);
-        let p6 = e.p;
-        let w = p6.expect(kinds, joints, room, k::SEMICOLON);
-        let p7 = w.p;
-        let x = p7.complete(room, s.m, k::LET_STMT);
-        return x.p;
-    }
-    let s = p1.start(room);
-    let p8 = s.p;
-    let o = opt(kinds, joints, room, p8, mode, d, s.m);
-    let p9 = o.p;
-    if o.yes {
-        return p9;
-    }
-    if p9.at(kinds, joints, k::PRAGMA) {
-        let p10 = p9.bump_any(kinds, joints, room);
-        let x = p10.complete(room, s.m, k::PRAGMA_STATEMENT);
-        return x.p;
-    }
-    if p9.at(kinds, joints, k::ANNOTATION) {
-        let p11 = p9.bump_any(kinds, joints, room);
-        let x = p11.complete(room, s.m, k::ANNOTATION_STATEMENT);
-        return x.p;
-    }
-    let c = expressions::stmt_lacks_expr(kinds, joints, p9);
-    let p12 = c.p;
-    if c.yes {
-        let p13 = p12.err_and_bump(
-            kinds,
-            joints,
-            room,
-            say::STMT_EXPECTED_EXPRESSION_TYPE_DECLARATION_OR_LET,
-        );
-        return p13.abandon(room, s.m);
-    }
-    let e = expr_bp(kinds, joints, room, p12, mode, d, Mark::Given(s.m), true, 1);
-    let p14 = e.p;
-    let g = e.got;
-    match g {
-        Got::Nothing => p14,
-        Got::Is(cm, block) => expressions::stmt_end(kinds, joints, room, p14, cm, block),
-    }
-}
-
-// opt_item, with the statements that are short: qubit_declaration_stmt, while_stmt, cal_, reset_stmt, barrier_, alias_stmt, delay_stmt and
-// io_declaration_stmt
-fn opt(
-    kinds: &[u16],
-    joints: &[u64],
-    room: &mut [u32],
-    p: Parser,
-    mode: u8,
-    left: u32,
-    m: u32,
-) -> Told
-    requires { ⌜ Fit p ⌝ }
-    ensures { λ r. ⌜ Does (env (now (kinds .entry)) (now (joints .entry))) (I.optItem (counted (tableOf mode) left) m) (view p (now (room .entry))) (r .yes) (view (r .p) (now (room .exit))) ⌝ }
-{
-    let la = p.nth(kinds, joints, 1);
-    let p1 = la.p;
-    let l = p1.current(kinds, joints);
-    let p2 = l.p;
-    if items::declares(l.kind, la.kind) {
-        let p3 = decl(kinds, joints, room, p2, mode, left, m);
-        return Told { p: p3, yes: true };
-    }
-    let l2 = p2.current(kinds, joints);
-    let p3 = l2.p;
-    let first = l2.kind;
-    match first {
-        k::QUBIT_KW => {
-            let p4 = p3.must(kinds, joints, room, k::QUBIT_KW);
-            let p5 = p4.must(kinds, joints, room, k::QUBIT_KW);
-            let s = p5.start(room);
-            let p6 = s.p;
-            let p7 = expressions::type_name(kinds, joints, room, p6);
-            if p7.at(kinds, joints, k::L_BRACK) {
-                let p8 = width(kinds, joints, room, p7, mode, left);
-                let p9 = grammar::fail_if_at(
-                    kinds,
-                    joints,
-                    room,
-                    p8,
-                    k::HARDWAREIDENT,
-                    say::FOUND_DESIGNATOR_IN_HARDWARE_QUBIT_DECLARATION,
-                );
-                let d = p9.complete(room, s.m, k::QUBIT_TYPE);
-                let p10 = d.p;
-                let p11 = items::qubit_end(kinds, joints, room, p10, m);
-                return Told { p: p11, yes: true };
-            }
-            let d = p7.complete(room, s.m, k::QUBIT_TYPE);
-            let p12 = d.p;
-            let p13 = items::qubit_end(kinds, joints, room, p12, m);
-            return Told { p: p13, yes: true };
-        }
-        k::CONST_KW => {
-            let p4 = decl(kinds, joints, room, p3, mode, left, m);
-            return Told { p: p4, yes: true };
-        }
-        k::GATE_KW => {
-            let p4 = gdef(kinds, joints, room, p3, mode, left, m);
-            return Told { p: p4, yes: true };
-        }
-        k::BREAK_KW => {
-            let p4 = items::break_(kinds, joints, room, p3, m);
-            return Told { p: p4, yes: true };
-        }
-        k::CONTINUE_KW => {
-            let p4 = items::continue_(kinds, joints, room, p3, m);
-            return Told { p: p4, yes: true };
-        }
-        k::END_KW => {
-            let p4 = items::end_(kinds, joints, room, p3, m);
-            return Told { p: p4, yes: true };
-        }
-        k::IF_KW => {
-            let p4 = if_stmt(kinds, joints, room, p3, mode, left, m);
-            return Told { p: p4, yes: true };
-        }
-        k::WHILE_KW => {
-            let p4 = p3.must(kinds, joints, room, k::WHILE_KW);
-            let p5 = p4.bump(kinds, joints, room, k::WHILE_KW);
-            let t = p5.expect(kinds, joints, room, k::L_PAREN);
-            let p6 = t.p;
-            let e = expr_bp(kinds, joints, room, p6, mode, left, Mark::Fresh, false, 1);
-            let p7 = e.p;
-            let u = p7.expect(kinds, joints, room, k::R_PAREN);
-            let p8 = u.p;
-            let p9 = body(kinds, joints, room, p8, mode, left);
-            let d = p9.complete(room, m, k::WHILE_STMT);
-            let p10 = d.p;
-            return Told { p: p10, yes: true };
-        }
-        k::FOR_KW => {
-            let p4 = fors(kinds, joints, room, p3, mode, left, m);
-            return Told { p: p4, yes: true };
-        }
-        k::DEF_KW => {
-            let p4 = def(kinds, joints, room, p3, mode, left, m);
-            return Told { p: p4, yes: true };
-        }
-        k::DEFCAL_KW => {
-            let p4 = dcal(kinds, joints, room, p3, mode, left, m);
-            return Told { p: p4, yes: true };
-        }
-        k::CAL_KW => {
-            let p4 = p3.bump(kinds, joints, room, k::CAL_KW);
-            let p5 = body(kinds, joints, room, p4, mode, left);
-            let d = p5.complete(room, m, k::CAL);
-            let p6 = d.p;
-            return Told { p: p6, yes: true };
-        }
-        k::DEFCALGRAMMAR_KW => {
-            let p4 = items::defcalgrammar_(kinds, joints, room, p3, m);
-            return Told { p: p4, yes: true };
-        }
-        k::RESET_KW => {
-            let p4 = p3.bump(kinds, joints, room, k::RESET_KW);
-            let l3 = p4.current(kinds, joints);
-            let p5 = l3.p;
-            if Fixed::QubitFirst.has(l3.kind) {
-                let s = p5.start(room);
-                let p6 = s.p;
-                let x = qarg(kinds, joints, room, p6, mode, left, s.m);
-                let p7 = x.p;
-                let t = p7.expect(kinds, joints, room, k::SEMICOLON);
-                let p8 = t.p;
-                let d = p8.complete(room, m, k::RESET);
-                let p9 = d.p;
-                return Told { p: p9, yes: true };
-            }
-            let p10 = p5.error(room, say::EXPECTING_NAME_OF_QUBIT_OR_REGISTER_TO, 0);
-            let p11 = p10.abandon(room, m);
-            return Told { p: p11, yes: true };
-        }
-        k::BARRIER_KW => {
-            let p4 = p3.bump(kinds, joints, room, k::BARRIER_KW);
-            if p4.at(kinds, joints, k::SEMICOLON) {
-                let t = p4.expect(kinds, joints, room, k::SEMICOLON);
-                let p5 = t.p;
-                let d = p5.complete(room, m, k::BARRIER);
-                let p6 = d.p;
-                return Told { p: p6, yes: true };
-            }
-            let p7 = list(
-                kinds,
-                joints,
-                room,
-                p4,
-                mode,
-                left,
-                DefFlavor::GateCallQubits,
-            );
-            let t = p7.expect(kinds, joints, room, k::SEMICOLON);
-            let p8 = t.p;
-            let d = p8.complete(room, m, k::BARRIER);
-            let p9 = d.p;
-            return Told { p: p9, yes: true };
-        }
-        k::O_P_E_N_Q_A_S_M_KW => {
-            let p4 = items::version_string(kinds, joints, room, p3, m);
-            return Told { p: p4, yes: true };
-        }
-        k::INCLUDE_KW => {
-            let p4 = items::include(kinds, joints, room, p3, m);
-            return Told { p: p4, yes: true };
-        }
-        k::SWITCH_KW => {
-            let p4 = sw(kinds, joints, room, p3, mode, left, m);
-            return Told { p: p4, yes: true };
-        }
-        k::LET_KW => {
-            let p4 = p3.must(kinds, joints, room, k::LET_KW);
-            let p5 = p4.bump_any(kinds, joints, room);
-            let p6 = grammar::name_r(kinds, joints, room, p5, Fixed::ItemRecoverySet);
-            let t = p6.expect(kinds, joints, room, k::EQ);
-            let p7 = t.p;
-            let e = expr_bp(kinds, joints, room, p7, mode, left, Mark::Fresh, false, 1);
-            let p8 = e.p;
-            let u = p8.expect(kinds, joints, room, k::SEMICOLON);
-            let p9 = u.p;
-            let d = p9.complete(room, m, k::ALIAS_DECLARATION_STATEMENT);
-            let p10 = d.p;
-            return Told { p: p10, yes: true };
-        }
-        k::DELAY_KW => {
-            let p4 = p3.bump(kinds, joints, room, k::DELAY_KW);
-            let p5 = width(kinds, joints, room, p4, mode, left);
-            let p6 = list(
-                kinds,
-                joints,
-                room,
-                p5,
-                mode,
-                left,
-                DefFlavor::GateCallQubits,
-            );
-            let t = p6.expect(kinds, joints, room, k::SEMICOLON);
-            let p7 = t.p;
-            let d = p7.complete(room, m, k::DELAY_STMT);
-            let p8 = d.p;
-            return Told { p: p8, yes: true };
-        }
-        k::INPUT_KW => {
-            let p4 = p3.bump_any(kinds, joints, room);
-            let p5 = items::io_type(kinds, joints, room, p4);
-            let p6 = type_spec(kinds, joints, room, p5, mode, left);
-            let p7 = expressions::var_name(kinds, joints, room, p6);
-            let t = p7.expect(kinds, joints, room, k::SEMICOLON);
-            let p8 = t.p;
-            let d = p8.complete(room, m, k::I_O_DECLARATION_STATEMENT);
-            let p9 = d.p;
-            return Told { p: p9, yes: true };
-        }
-        k::OUTPUT_KW => {
-            let p4 = p3.bump_any(kinds, joints, room);
-            let p5 = items::io_type(kinds, joints, room, p4);
-            let p6 = type_spec(kinds, joints, room, p5, mode, left);
-            let p7 = expressions::var_name(kinds, joints, room, p6);
-            let t = p7.expect(kinds, joints, room, k::SEMICOLON);
-            let p8 = t.p;
-            let d = p8.complete(room, m, k::I_O_DECLARATION_STATEMENT);
-            let p9 = d.p;
-            return Told { p: p9, yes: true };
-        }
-        _ => {
-            return Told { p: p3, yes: false };
-        }
-    }
 }

@@ -8,9 +8,11 @@ use Rattle.kinds.specs.Kinds.{SEMICOLON, COMMA, L-PAREN, R-PAREN, L-BRACK, R-BR
 use Rattle.kinds.specs.Sets.{LITERAL-FIRST, TIMING-LITERAL-FIRST, EXPR-FIRST, CLASSICAL-TYPES, QUBIT-FIRST}
 use Rattle.kinds.specs.Messages.{UNEXPECTED-STRING-LITERAL, TIMING-AND-IMAGINARY-LITERALS-MUST-BEGIN-WITH, ATOM-EXPR-EXPECTED-EXPRESSION, MODIFIER-INV-ACCEPTS-NO-PARAMETER-EXPECTING-AT, EXPECTING-AT, EXPECTING-ARGUMENT-TO-POW-GATE-MODIFIER, EXPECTING-QUBIT-S-TO-MEASURE, EXPECTED-EXPRESSION-FOUND-COMMA-INSTEAD, EXPECTED-A-BLOCK}
 use Rattle.runtime.specs.declared.parser.Completed.{Completed}
+use Rattle.runtime.specs.declared.parser.Done.{Done}
 use Rattle.runtime.specs.Acts.{Acts, Acts.done, _>>=_, _>>_, at, atTs, nth, current, eat, bump, bumpAny, expect, must, start, complete, errAndBump, goesOn, Turn, Turn.more, Turn.last, repeats}
 use Rattle.grammar.specs.declared.Got.{Got}
 use Rattle.grammar.specs.declared.Got.the-variants.{Is, Nothing}
+use Rattle.grammar.specs.declared.Parsed.{Parsed}
 use Rattle.grammar.specs.declared.atom.Next.{Next}
 use Rattle.grammar.specs.declared.atom.Next.the-variants.{Semi, Comma, Stop}
 use Rattle.grammar.specs.Grammar.{Counted, when, just, fail, failIfAt, isBlocklike}
@@ -36,6 +38,10 @@ unfoldable pub timing : Acts (Unit {0})
 timing = do
   b ← atTs TIMING-LITERAL-FIRST
   when (not b) (fail TIMING-AND-IMAGINARY-LITERALS-MUST-BEGIN-WITH)
+
+-- the end of fn atom_expr, line 115: an atom that was made, and whether it is block-like
+abbrev pub nodeOf : Done → Parsed
+nodeOf d = record { p = d .p; got = Is (d .cm) (isBlocklike (d .cm .kind)) }
 
 -- an atom, and whether it is block-like
 abbrev pub node : Acts Completed → Acts Got

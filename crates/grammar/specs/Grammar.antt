@@ -31,6 +31,12 @@ when c m = pick c m (done tt)
 abbrev pub just : {A : Type 0} → Acts A → Acts (Unit {0})
 just m = m >> done tt
 
+-- `p.expect(ket); m.complete(p, node);`: the end of many
+abbrev pub close : ℕ → ℕ → ℕ → Acts (Unit {0})
+close ket m node = do
+  expect ket
+  just (complete m node)
+
 -- `p.error(message)`
 abbrev pub fail : ℕ → Acts (Unit {0})
 fail code = error code 0

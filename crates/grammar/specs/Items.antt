@@ -311,7 +311,20 @@ module _ (deeper : Counted) where
     expect SEMICOLON
     just (complete m ALIAS-DECLARATION-STATEMENT)
 
-  -- fn opt_item, line 68: the statements that begin with a kind, in the order of its match
+  -- fn opt_item, line 68: the statements that begin with a kind, in the order of its match; first those from line 96 on
+  abbrev pub statementsMore : ℕ → List (ℕ × Acts (Unit {0}))
+  statementsMore m =
+      (RESET-KW, resetStmt m)
+      ∷ (BARRIER-KW, barrier m)
+      ∷ (O-P-E-N-Q-A-S-M-KW, versionString m)
+      ∷ (INCLUDE-KW, include m)
+      ∷ (SWITCH-KW, switchCaseStmt m)
+      ∷ (LET-KW, aliasStmt m)
+      ∷ (DELAY-KW, delayStmt m)
+      ∷ (INPUT-KW, ioDeclarationStmt m)
+      ∷ (OUTPUT-KW, ioDeclarationStmt m)
+      ∷ []
+
   abbrev pub statements : ℕ → List (ℕ × Acts (Unit {0}))
   statements m =
       (QUBIT-KW, qubitDeclarationStmt m)
@@ -327,20 +340,15 @@ module _ (deeper : Counted) where
       ∷ (DEFCAL-KW, defcal m)
       ∷ (CAL-KW, cal m)
       ∷ (DEFCALGRAMMAR-KW, defcalgrammar m)
-      ∷ (RESET-KW, resetStmt m)
-      ∷ (BARRIER-KW, barrier m)
-      ∷ (O-P-E-N-Q-A-S-M-KW, versionString m)
-      ∷ (INCLUDE-KW, include m)
-      ∷ (SWITCH-KW, switchCaseStmt m)
-      ∷ (LET-KW, aliasStmt m)
-      ∷ (DELAY-KW, delayStmt m)
-      ∷ (INPUT-KW, ioDeclarationStmt m)
-      ∷ (OUTPUT-KW, ioDeclarationStmt m)
-      ∷ []
+      ∷ statementsMore m
 
   abbrev pub beginning : List (ℕ × Acts (Unit {0})) → ℕ → Acts Bool
   beginning [] k = done false
   beginning (r ∷ rs) k = pick (eqb k (r .0)) (r .1 >> done true) (beginning rs k)
+
+  -- the arms of fn opt_item from line 96 on
+  abbrev pub optItemMore : ℕ → ℕ → Acts Bool
+  optItemMore m k = beginning (statementsMore m) k
 
   -- whether there was an item: `Ok(())`, or `Err(m)` with the marker as it was
   unfoldable pub optItem : ℕ → Acts Bool

@@ -48,6 +48,18 @@ pub fn hardware_qubit(kinds: &[u16], joints: &[u64], room: &mut [u32], p: Parser
     p2.complete(room, s.m, k::HARDWARE_QUBIT)
 }
 
+// The end of atom_expr: an atom that was made, and whether it is block-like.
+pub fn node(d: Done) -> Parsed
+    ensures { λ r. ⌜ r ≡ acts.nodeOf d ⌝ }
+{
+    let p = d.p;
+    let cm = d.cm;
+    Parsed {
+        p,
+        got: Got::Is(cm, cm.kind == k::BLOCK_EXPR),
+    }
+}
+
 // The error of a timing literal that begins with no number.
 fn timing(kinds: &[u16], joints: &[u64], room: &mut [u32], p: Parser) -> Parser
     requires { ⌜ Fit p ⌝ }

@@ -60,6 +60,25 @@ pub fn name_r(kinds: &[u16], joints: &[u64], room: &mut [u32], p: Parser, recove
     p.err_recover(kinds, joints, room, say::EXPECTED_A_NAME, recovery)
 }
 
+// A kind that is to stand here, and the end of a node.
+pub fn close(
+    kinds: &[u16],
+    joints: &[u64],
+    room: &mut [u32],
+    p: Parser,
+    ket: u16,
+    m: u32,
+    node: u16,
+) -> Parser
+    requires { ⌜ Fit p ⌝ }
+    ensures { λ r. ⌜ Does (env (now (kinds .entry)) (now (joints .entry))) (acts.close ket m node) (view p (now (room .entry))) tt (view r (now (room .exit))) ⌝ }
+{
+    let t = p.expect(kinds, joints, room, ket);
+    let p1 = t.p;
+    let d = p1.complete(room, m, node);
+    d.p
+}
+
 // An error where a kind stands.
 pub fn fail_if_at(
     kinds: &[u16],
