@@ -4,8 +4,9 @@ A contract says what its function runs, in one of these forms:
   Does e m s a r    reads tokens, may change the room
   Steps m s a r     reads no token
   Peeks e m p a q   changes no room
-  told              the answer to a test that changes nothing, by a law of its own (TOLD in hints.py)
+  told              the answer to a test that changes nothing, by a law of its own
   pure              any other equation of the result
+TOLD in hints.py has the laws of the tests, and of acts whose answer is not read.
 A call becomes its law with `.ensures`, a branch or an arm rewrites the goal with what it tells, and what is left ends in `ends`.
 Where a definition nests its blocks as the source does, the goal is flattened first (FLAT in hints.py).
 """
@@ -28,7 +29,7 @@ class Fn:
         form = re.match(r"(Does|Steps|Peeks)\b", ensures)
         laws = [law for text, law in told if text in ensures]
         self.form = form.group(1) if form else "told" if laws else "pure"
-        self.law = LAWS[self.form] if form else laws[0] if laws else None
+        self.law = laws[0] if laws else LAWS.get(self.form)
         # the definition that the contract names, as the code names it
         acts = re.sub(r"^\w+ \(env .*?\)\)\) |^Steps |^r ≡ ", "", ensures)
         m = re.match(r"\(*([\w.]+)", acts)

@@ -1,12 +1,12 @@
 # What tools/proofs is told of this grammar: the names that a written proof may cite and the modules they stand in; short names of modules;
-# the tests that change nothing, with the law that makes each an act; what lays a nested definition out in a row; and of single functions
+# the contracts that have a law of their own: tests that change nothing, and acts whose answer is not read; what lays a nested definition out in a row; and of single functions
 # what cannot be read off the code. docs/PRODUCTIONS.md has the keys.
 MODULES = [
     ("Rattle.runtime.proofs.Laws", [
         "then", "step", "peek", "peeks", "see", "go", "ask", "any", "all", "only", "ends", "Ran", "ran-none", "ran-more", "ran-done",
         "spent-does", "spent-steps", "spent-peeks", "falls", "falls-peeks", "falls-steps", "left-sees", "left-asked", "left-goes",
         "left-told", "left-on", "spends-nth", "spends-bump", "most-left"]),
-    ("Rattle.grammar.proofs.Laws", ["assoc", "pick-bind", "done-bind", "list-end", "list-go"]),
+    ("Rattle.grammar.proofs.Laws", ["assoc", "pick-bind", "done-bind", "past", "passed", "list-end", "list-go"]),
     ("borrow.Author.Tests", ["ne-eqb", "lt-ltb", "le-ltb", "eq-eqb"]),
     ("native.Mathlib.Nat", ["lt-of-le-of-lt"]),
     ("native.Mathlib.Omega", ["arith"]),
@@ -37,6 +37,8 @@ TOLD = [
     ("≡ stopped ", "ask _ _ _"),
     ("≡ acts.endsHere ", "list-end _ _ _ _"),
     ("≡ acts.goesHere ", "list-go _ _ _ _"),
+    ("(acts.expected ", "past _ _ _ _"),
+    ("(acts.completed ", "passed _ _ _ _"),
 ]
 FLAT = "simp (assoc, pick-bind, done-bind)"
 HINTS = {}

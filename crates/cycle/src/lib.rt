@@ -60,23 +60,16 @@ fn sig(
         let p4 = l.p;
         if kind::is_type(l.kind) {
             let p5 = spec(kinds, joints, room, p4, mode, left);
-            let d = p5.complete(room, s.m, k::RETURN_SIGNATURE);
-            let p6 = d.p;
+            let p6 = grammar::completed(room, p5, s.m, k::RETURN_SIGNATURE);
             let p7 = body(kinds, joints, room, p6, mode, left);
-            let x = p7.complete(room, m, node);
-            let p8 = x.p;
-            return p8;
+            return grammar::completed(room, p7, m, node);
         }
         let p9 = p4.abandon(room, s.m);
         let p10 = body(kinds, joints, room, p9, mode, left);
-        let x = p10.complete(room, m, node);
-        let p11 = x.p;
-        return p11;
+        return grammar::completed(room, p10, m, node);
     }
     let p12 = body(kinds, joints, room, p, mode, left);
-    let x = p12.complete(room, m, node);
-    let p13 = x.p;
-    p13
+    grammar::completed(room, p12, m, node)
 }
 
 // ---- src/grammar/params.rs
@@ -167,12 +160,10 @@ fn par(
                     let p6 = p5.bump(kinds, joints, room, k::COLON);
                     let e2 = expr_bp(kinds, joints, room, p6, mode, left, Mark::Fresh, false, 1);
                     let p7 = e2.p;
-                    let d = p7.complete(room, s.m, k::RANGE_EXPR);
-                    let p8 = d.p;
+                    let p8 = grammar::completed(room, p7, s.m, k::RANGE_EXPR);
                     return Told { p: p8, yes: true };
                 }
-                let d = p5.complete(room, s.m, k::RANGE_EXPR);
-                let p9 = d.p;
+                let p9 = grammar::completed(room, p5, s.m, k::RANGE_EXPR);
                 return Told { p: p9, yes: true };
             }
             let p10 = p3.abandon(room, s.m);
@@ -184,8 +175,7 @@ fn par(
         How::Typed => {
             let p1 = spec(kinds, joints, room, p, mode, left);
             let p2 = expressions::var_name(kinds, joints, room, p1);
-            let d = p2.complete(room, m, k::TYPED_PARAM);
-            let p3 = d.p;
+            let p3 = grammar::completed(room, p2, m, k::TYPED_PARAM);
             return Told { p: p3, yes: true };
         }
         How::Untyped => {
@@ -209,8 +199,7 @@ fn qarg(
 {
     if p.at(kinds, joints, k::HARDWAREIDENT) {
         let p1 = p.bump(kinds, joints, room, k::HARDWAREIDENT);
-        let d = p1.complete(room, m, k::HARDWARE_QUBIT);
-        let p2 = d.p;
+        let p2 = grammar::completed(room, p1, m, k::HARDWARE_QUBIT);
         return Told { p: p2, yes: true };
     }
     if p.at(kinds, joints, k::IDENT) {
@@ -338,12 +327,10 @@ fn cast(kinds: &[u16], joints: &[u64], room: &mut [u32], p: Parser, mode: u8, le
     let s = p.start(room);
     let p1 = s.p;
     let p2 = spec(kinds, joints, room, p1, mode, left);
-    let t = p2.expect(kinds, joints, room, k::L_PAREN);
-    let p3 = t.p;
+    let p3 = grammar::expected(kinds, joints, room, p2, k::L_PAREN);
     let e = expr_bp(kinds, joints, room, p3, mode, left, Mark::Fresh, false, 1);
     let p4 = e.p;
-    let u = p4.expect(kinds, joints, room, k::R_PAREN);
-    let p5 = u.p;
+    let p5 = grammar::expected(kinds, joints, room, p4, k::R_PAREN);
     p5.complete(room, s.m, k::CAST_EXPRESSION)
 }
 
@@ -447,14 +434,11 @@ fn ctl(
     if p2.at(kinds, joints, k::L_PAREN) {
         let s2 = p2.start(room);
         let p3 = s2.p;
-        let t = p3.expect(kinds, joints, room, k::L_PAREN);
-        let p4 = t.p;
+        let p4 = grammar::expected(kinds, joints, room, p3, k::L_PAREN);
         let e = expr_bp(kinds, joints, room, p4, mode, left, Mark::Fresh, false, 1);
         let p5 = e.p;
-        let u = p5.expect(kinds, joints, room, k::R_PAREN);
-        let p6 = u.p;
-        let d = p6.complete(room, s2.m, k::PAREN_EXPR);
-        let p7 = d.p;
+        let p6 = grammar::expected(kinds, joints, room, p5, k::R_PAREN);
+        let p7 = grammar::completed(room, p6, s2.m, k::PAREN_EXPR);
         return grammar::close(kinds, joints, room, p7, k::AT, s1.m, node);
     }
     let p10 = atom::no_argument(room, p2, kw);
@@ -525,8 +509,7 @@ fn tup(kinds: &[u16], joints: &[u64], room: &mut [u32], p: Parser, mode: u8, lef
     let s = p1.start(room);
     let p2 = s.p;
     let m = s.m;
-    let t = p2.expect(kinds, joints, room, k::L_PAREN);
-    let p3 = t.p;
+    let p3 = grammar::expected(kinds, joints, room, p2, k::L_PAREN);
     let c = atom::tuple_comma(kinds, joints, room, p3);
     let mut q = c.p;
     let mut comma = c.yes;
@@ -608,8 +591,7 @@ fn blk(kinds: &[u16], joints: &[u64], room: &mut [u32], p: Parser, mode: u8, lef
     let p2 = s.p;
     let p3 = p2.bump(kinds, joints, room, k::L_CURLY);
     let p4 = sts(kinds, joints, room, p3, mode, left);
-    let t = p4.expect(kinds, joints, room, k::R_CURLY);
-    let p5 = t.p;
+    let p5 = grammar::expected(kinds, joints, room, p4, k::R_CURLY);
     p5.complete(room, s.m, k::BLOCK_EXPR)
 }
 
@@ -698,10 +680,8 @@ fn stmt(kinds: &[u16], joints: &[u64], room: &mut [u32], p: Parser, mode: u8, le
         let s = p1.start(room);
         let p2 = s.p;
         let p3 = p2.bump(kinds, joints, room, k::LET_KW);
-        let u = p3.expect(kinds, joints, room, k::IDENT);
-        let p4 = u.p;
-        let v = p4.expect(kinds, joints, room, k::EQ);
-        let p5 = v.p;
+        let p4 = grammar::expected(kinds, joints, room, p3, k::IDENT);
+        let p5 = grammar::expected(kinds, joints, room, p4, k::EQ);
         let e = expr_bp(kinds, joints, room, p5, mode, d, Mark::Fresh, false, 1);
         let p6 = e.p;
         return grammar::close(kinds, joints, room, p6, k::SEMICOLON, s.m, k::LET_STMT);
@@ -715,13 +695,11 @@ fn stmt(kinds: &[u16], joints: &[u64], room: &mut [u32], p: Parser, mode: u8, le
     }
     if p9.at(kinds, joints, k::PRAGMA) {
         let p10 = p9.bump_any(kinds, joints, room);
-        let x = p10.complete(room, s.m, k::PRAGMA_STATEMENT);
-        return x.p;
+        return grammar::completed(room, p10, s.m, k::PRAGMA_STATEMENT);
     }
     if p9.at(kinds, joints, k::ANNOTATION) {
         let p11 = p9.bump_any(kinds, joints, room);
-        let x = p11.complete(room, s.m, k::ANNOTATION_STATEMENT);
-        return x.p;
+        return grammar::completed(room, p11, s.m, k::ANNOTATION_STATEMENT);
     }
     let c = expressions::stmt_lacks_expr(kinds, joints, p9);
     let p12 = c.p;
@@ -1074,11 +1052,9 @@ fn scal(kinds: &[u16], joints: &[u64], room: &mut [u32], p: Parser, mode: u8, le
     let p2 = expressions::type_name(kinds, joints, room, p1);
     if p2.at(kinds, joints, k::L_BRACK) {
         let p3 = width(kinds, joints, room, p2, mode, left);
-        let d = p3.complete(room, s.m, k::SCALAR_TYPE);
-        return d.p;
+        return grammar::completed(room, p3, s.m, k::SCALAR_TYPE);
     }
-    let d = p2.complete(room, s.m, k::SCALAR_TYPE);
-    d.p
+    grammar::completed(room, p2, s.m, k::SCALAR_TYPE)
 }
 
 // complex_type_spec
@@ -1107,8 +1083,7 @@ fn cplx(kinds: &[u16], joints: &[u64], room: &mut [u32], p: Parser, mode: u8, le
         let p6 = scal(kinds, joints, room, p5, mode, d);
         return grammar::close(kinds, joints, room, p6, k::R_BRACK, s.m, k::SCALAR_TYPE);
     }
-    let x = p3.complete(room, s.m, k::SCALAR_TYPE);
-    x.p
+    grammar::completed(room, p3, s.m, k::SCALAR_TYPE)
 }
 
 // designator
@@ -1160,8 +1135,7 @@ fn set(kinds: &[u16], joints: &[u64], room: &mut [u32], p: Parser, mode: u8, lef
     let p3 = p2.bump(kinds, joints, room, k::L_CURLY);
     let p4 = els(kinds, joints, room, p3, mode, left);
     let p5 = p4.bump(kinds, joints, room, k::R_CURLY);
-    let d = p5.complete(room, s.m, k::SET_EXPRESSION);
-    d.p
+    grammar::completed(room, p5, s.m, k::SET_EXPRESSION)
 }
 
 // index_operator
@@ -1172,8 +1146,7 @@ fn subs(kinds: &[u16], joints: &[u64], room: &mut [u32], p: Parser, mode: u8, le
     let p1 = p.must(kinds, joints, room, k::L_BRACK);
     let s = p1.start(room);
     let p2 = s.p;
-    let t = p2.expect(kinds, joints, room, k::L_BRACK);
-    let p3 = t.p;
+    let p3 = grammar::expected(kinds, joints, room, p2, k::L_BRACK);
     if p3.at(kinds, joints, k::L_CURLY) {
         let p4 = set(kinds, joints, room, p3, mode, left);
         return grammar::close(kinds, joints, room, p4, k::R_BRACK, s.m, k::INDEX_OPERATOR);
@@ -1255,13 +1228,11 @@ fn opt(
                     k::HARDWAREIDENT,
                     say::FOUND_DESIGNATOR_IN_HARDWARE_QUBIT_DECLARATION,
                 );
-                let d = p9.complete(room, s.m, k::QUBIT_TYPE);
-                let p10 = d.p;
+                let p10 = grammar::completed(room, p9, s.m, k::QUBIT_TYPE);
                 let p11 = items::qubit_end(kinds, joints, room, p10, m);
                 return Told { p: p11, yes: true };
             }
-            let d = p7.complete(room, s.m, k::QUBIT_TYPE);
-            let p12 = d.p;
+            let p12 = grammar::completed(room, p7, s.m, k::QUBIT_TYPE);
             let p13 = items::qubit_end(kinds, joints, room, p12, m);
             return Told { p: p13, yes: true };
         }
@@ -1292,15 +1263,12 @@ fn opt(
         k::WHILE_KW => {
             let p4 = p3.must(kinds, joints, room, k::WHILE_KW);
             let p5 = p4.bump(kinds, joints, room, k::WHILE_KW);
-            let t = p5.expect(kinds, joints, room, k::L_PAREN);
-            let p6 = t.p;
+            let p6 = grammar::expected(kinds, joints, room, p5, k::L_PAREN);
             let e = expr_bp(kinds, joints, room, p6, mode, left, Mark::Fresh, false, 1);
             let p7 = e.p;
-            let u = p7.expect(kinds, joints, room, k::R_PAREN);
-            let p8 = u.p;
+            let p8 = grammar::expected(kinds, joints, room, p7, k::R_PAREN);
             let p9 = body(kinds, joints, room, p8, mode, left);
-            let d = p9.complete(room, m, k::WHILE_STMT);
-            let p10 = d.p;
+            let p10 = grammar::completed(room, p9, m, k::WHILE_STMT);
             return Told { p: p10, yes: true };
         }
         k::FOR_KW => {
@@ -1318,8 +1286,7 @@ fn opt(
         k::CAL_KW => {
             let p4 = p3.bump(kinds, joints, room, k::CAL_KW);
             let p5 = body(kinds, joints, room, p4, mode, left);
-            let d = p5.complete(room, m, k::CAL);
-            let p6 = d.p;
+            let p6 = grammar::completed(room, p5, m, k::CAL);
             return Told { p: p6, yes: true };
         }
         k::DEFCALGRAMMAR_KW => {
@@ -1356,10 +1323,8 @@ fn more(
                 let p3 = s.p;
                 let x = qarg(kinds, joints, room, p3, mode, left, s.m);
                 let p4 = x.p;
-                let t = p4.expect(kinds, joints, room, k::SEMICOLON);
-                let p5 = t.p;
-                let d = p5.complete(room, m, k::RESET);
-                let p6 = d.p;
+                let p5 = grammar::expected(kinds, joints, room, p4, k::SEMICOLON);
+                let p6 = grammar::completed(room, p5, m, k::RESET);
                 return Told { p: p6, yes: true };
             }
             let p7 = p2.error(room, say::EXPECTING_NAME_OF_QUBIT_OR_REGISTER_TO, 0);
@@ -1369,10 +1334,8 @@ fn more(
         k::BARRIER_KW => {
             let p1 = p.bump(kinds, joints, room, k::BARRIER_KW);
             if p1.at(kinds, joints, k::SEMICOLON) {
-                let t = p1.expect(kinds, joints, room, k::SEMICOLON);
-                let p2 = t.p;
-                let d = p2.complete(room, m, k::BARRIER);
-                let p3 = d.p;
+                let p2 = grammar::expected(kinds, joints, room, p1, k::SEMICOLON);
+                let p3 = grammar::completed(room, p2, m, k::BARRIER);
                 return Told { p: p3, yes: true };
             }
             let p4 = list(
@@ -1384,10 +1347,8 @@ fn more(
                 left,
                 DefFlavor::GateCallQubits,
             );
-            let t = p4.expect(kinds, joints, room, k::SEMICOLON);
-            let p5 = t.p;
-            let d = p5.complete(room, m, k::BARRIER);
-            let p6 = d.p;
+            let p5 = grammar::expected(kinds, joints, room, p4, k::SEMICOLON);
+            let p6 = grammar::completed(room, p5, m, k::BARRIER);
             return Told { p: p6, yes: true };
         }
         k::O_P_E_N_Q_A_S_M_KW => {
@@ -1406,14 +1367,11 @@ fn more(
             let p1 = p.must(kinds, joints, room, k::LET_KW);
             let p2 = p1.bump_any(kinds, joints, room);
             let p3 = grammar::name_r(kinds, joints, room, p2, Fixed::ItemRecoverySet);
-            let t = p3.expect(kinds, joints, room, k::EQ);
-            let p4 = t.p;
+            let p4 = grammar::expected(kinds, joints, room, p3, k::EQ);
             let e = expr_bp(kinds, joints, room, p4, mode, left, Mark::Fresh, false, 1);
             let p5 = e.p;
-            let u = p5.expect(kinds, joints, room, k::SEMICOLON);
-            let p6 = u.p;
-            let d = p6.complete(room, m, k::ALIAS_DECLARATION_STATEMENT);
-            let p7 = d.p;
+            let p6 = grammar::expected(kinds, joints, room, p5, k::SEMICOLON);
+            let p7 = grammar::completed(room, p6, m, k::ALIAS_DECLARATION_STATEMENT);
             return Told { p: p7, yes: true };
         }
         k::DELAY_KW => {
@@ -1428,10 +1386,8 @@ fn more(
                 left,
                 DefFlavor::GateCallQubits,
             );
-            let t = p3.expect(kinds, joints, room, k::SEMICOLON);
-            let p4 = t.p;
-            let d = p4.complete(room, m, k::DELAY_STMT);
-            let p5 = d.p;
+            let p4 = grammar::expected(kinds, joints, room, p3, k::SEMICOLON);
+            let p5 = grammar::completed(room, p4, m, k::DELAY_STMT);
             return Told { p: p5, yes: true };
         }
         k::INPUT_KW => {
@@ -1463,14 +1419,11 @@ fn sw(
 {
     let p1 = p.must(kinds, joints, room, k::SWITCH_KW);
     let p2 = p1.bump(kinds, joints, room, k::SWITCH_KW);
-    let t = p2.expect(kinds, joints, room, k::L_PAREN);
-    let p3 = t.p;
+    let p3 = grammar::expected(kinds, joints, room, p2, k::L_PAREN);
     let e = expr_bp(kinds, joints, room, p3, mode, left, Mark::Fresh, false, 1);
     let p4 = e.p;
-    let u = p4.expect(kinds, joints, room, k::R_PAREN);
-    let p5 = u.p;
-    let v = p5.expect(kinds, joints, room, k::L_CURLY);
-    let p6 = v.p;
+    let p5 = grammar::expected(kinds, joints, room, p4, k::R_PAREN);
+    let p6 = grammar::expected(kinds, joints, room, p5, k::L_CURLY);
     let mut q = grammar::fail_unless_at(
         kinds,
         joints,
@@ -1485,8 +1438,7 @@ fn sw(
         let q2 = q1.bump(kinds, joints, room, k::CASE_KW);
         let q3 = els(kinds, joints, room, q2, mode, left);
         let q4 = body(kinds, joints, room, q3, mode, left);
-        let d = q4.complete(room, s.m, k::CASE_EXPR);
-        q = d.p;
+        q = grammar::completed(room, q4, s.m, k::CASE_EXPR);
     }
     let w = q.eat(kinds, joints, room, k::DEFAULT_KW);
     let p7 = w.p;
@@ -1516,12 +1468,10 @@ fn ifs(
     let d = left - 1;
     let p1 = p.must(kinds, joints, room, k::IF_KW);
     let p2 = p1.bump(kinds, joints, room, k::IF_KW);
-    let t = p2.expect(kinds, joints, room, k::L_PAREN);
-    let p3 = t.p;
+    let p3 = grammar::expected(kinds, joints, room, p2, k::L_PAREN);
     let e = expr_bp(kinds, joints, room, p3, mode, d, Mark::Fresh, false, 1);
     let p4 = e.p;
-    let u = p4.expect(kinds, joints, room, k::R_PAREN);
-    let p5 = u.p;
+    let p5 = grammar::expected(kinds, joints, room, p4, k::R_PAREN);
     let p6 = body(kinds, joints, room, p5, mode, d);
     if p6.at(kinds, joints, k::ELSE_KW) {
         let p7 = p6.bump(kinds, joints, room, k::ELSE_KW);
@@ -1529,15 +1479,12 @@ fn ifs(
             let s = p7.start(room);
             let p8 = s.p;
             let p9 = ifs(kinds, joints, room, p8, mode, d, s.m);
-            let x = p9.complete(room, m, k::IF_STMT);
-            return x.p;
+            return grammar::completed(room, p9, m, k::IF_STMT);
         }
         let p10 = body(kinds, joints, room, p7, mode, d);
-        let x = p10.complete(room, m, k::IF_STMT);
-        return x.p;
+        return grammar::completed(room, p10, m, k::IF_STMT);
     }
-    let x = p6.complete(room, m, k::IF_STMT);
-    x.p
+    grammar::completed(room, p6, m, k::IF_STMT)
 }
 
 // for_stmt
@@ -1557,8 +1504,7 @@ fn fors(
     let p2 = p1.bump(kinds, joints, room, k::FOR_KW);
     let p3 = spec(kinds, joints, room, p2, mode, left);
     let p4 = grammar::name_r(kinds, joints, room, p3, Fixed::Empty);
-    let t = p4.expect(kinds, joints, room, k::IN_KW);
-    let p5 = t.p;
+    let p5 = grammar::expected(kinds, joints, room, p4, k::IN_KW);
     let s = p5.start(room);
     let p6 = s.p;
     if p6.at(kinds, joints, k::L_CURLY) {
@@ -1588,17 +1534,14 @@ fn rest(
     requires { ⌜ Fit p ⌝ }
     ensures { λ r. ⌜ Does (env (now (kinds .entry)) (now (joints .entry))) (I.forRest (counted (tableOf mode) left) m m1) (view p (now (room .entry))) tt (view r (now (room .exit))) ⌝ }
 {
-    let d = p.complete(room, m1, k::FOR_ITERABLE);
-    let p1 = d.p;
+    let p1 = grammar::completed(room, p, m1, k::FOR_ITERABLE);
     if p1.at(kinds, joints, k::L_CURLY) {
         let x = blk(kinds, joints, room, p1, mode, left);
         let p2 = x.p;
-        let y = p2.complete(room, m, k::FOR_STMT);
-        return y.p;
+        return grammar::completed(room, p2, m, k::FOR_STMT);
     }
     let p3 = stmt(kinds, joints, room, p1, mode, left);
-    let y = p3.complete(room, m, k::FOR_STMT);
-    y.p
+    grammar::completed(room, p3, m, k::FOR_STMT)
 }
 
 // gate_definition
@@ -1620,13 +1563,11 @@ fn gdef(
         let p3 = list(kinds, joints, room, p2, mode, left, DefFlavor::GateParams);
         let p4 = list(kinds, joints, room, p3, mode, left, DefFlavor::GateQubits);
         let p5 = body(kinds, joints, room, p4, mode, left);
-        let d = p5.complete(room, m, k::GATE);
-        return d.p;
+        return grammar::completed(room, p5, m, k::GATE);
     }
     let p6 = list(kinds, joints, room, p2, mode, left, DefFlavor::GateQubits);
     let p7 = body(kinds, joints, room, p6, mode, left);
-    let d = p7.complete(room, m, k::GATE);
-    d.p
+    grammar::completed(room, p7, m, k::GATE)
 }
 
 // defcal_
@@ -1674,14 +1615,11 @@ fn decl(
     let l = p3.current(kinds, joints);
     let p4 = l.p;
     if l.kind == k::L_PAREN {
-        let u = p4.expect(kinds, joints, room, k::L_PAREN);
-        let p5 = u.p;
+        let p5 = grammar::expected(kinds, joints, room, p4, k::L_PAREN);
         let e = expr_bp(kinds, joints, room, p5, mode, left, Mark::Fresh, false, 1);
         let p6 = e.p;
-        let v = p6.expect(kinds, joints, room, k::R_PAREN);
-        let p7 = v.p;
-        let d = p7.complete(room, s.m, k::CAST_EXPRESSION);
-        let p8 = d.p;
+        let p7 = grammar::expected(kinds, joints, room, p6, k::R_PAREN);
+        let p8 = grammar::completed(room, p7, s.m, k::CAST_EXPRESSION);
         if p8.at(kinds, joints, k::SEMICOLON) {
             return grammar::close(kinds, joints, room, p8, k::SEMICOLON, m, k::EXPR_STMT);
         }
@@ -1692,8 +1630,7 @@ fn decl(
     let y = p11.eat(kinds, joints, room, k::SEMICOLON);
     let p12 = y.p;
     if y.yes {
-        let d = p12.complete(room, m, k::CLASSICAL_DECLARATION_STATEMENT);
-        return d.p;
+        return grammar::completed(room, p12, m, k::CLASSICAL_DECLARATION_STATEMENT);
     }
     let z = p12.expect(kinds, joints, room, k::EQ);
     let p13 = z.p;

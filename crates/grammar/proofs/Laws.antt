@@ -1,12 +1,12 @@
--- What flattens a definition, and the tests of a list that change nothing. Assumes nothing.
-use mathlib.Core.Path.{_≡_, refl, ap, sym}
+-- What flattens a definition, acts whose answer is not read, and the tests of a list that change nothing. Assumes nothing.
+use mathlib.Core.Path.{_≡_, refl, ap, sym, _∙_}
 use mathlib.Core.Bool.{Bool, true, false, not}
 use Rattle.kinds.specs.Membership.{pick}
 use Rattle.kinds.specs.Kinds.{EOF}
 use Rattle.runtime.specs.Input.{Env}
 use Rattle.runtime.specs.State.{St}
-use Rattle.runtime.specs.Acts.{Acts, Acts.done, Acts.act, _>>=_, sees, Does}
-use Rattle.runtime.proofs.Laws.{see}
+use Rattle.runtime.specs.Acts.{Acts, Acts.done, Acts.act, _>>=_, run, sees, Does, Steps}
+use Rattle.runtime.proofs.Laws.{run-bind, any, see}
 use Rattle.grammar.specs.declared.params.Shape.{Shape}
 use Rattle.grammar.specs.Params.{atListEnd, endsHere, listGoes, goesHere}
 
@@ -22,6 +22,16 @@ done-bind a f = refl
 pub pick-bind : {A B : Type 0} (b : Bool) (x y : Acts A) (f : A → Acts B) → (pick b x y) >>= f ≡ pick b (x >>= f) (y >>= f)
 pick-bind true x y f = refl
 pick-bind false x y f = refl
+
+-- acts whose answer is not read, and then the rest
+pub past : {A B : Type 0} (e : Env) (m : Acts A) (k : Acts B) (s : St) {r : St} {b : B} {t : St} → Does e (m >>= (λ x. done (tt {0}))) s (tt {0}) r → Does e k r b t → Does e (m >>= (λ x. k)) s b t
+unfolding run
+past e m k s {r} h g =
+    let q : run e m s .1 ≡ r = ap (λ (o : Unit {0} × St). o .1) (sym (run-bind e m (λ x. done (tt {0})) s) ∙ h .same) in
+    record { same = run-bind e m (λ x. k) s ∙ rw q (g .same); fit = g .fit }
+
+pub passed : {A B : Type 0} (e : Env) (m : Acts A) (k : Acts B) (s : St) {r : St} {b : B} {t : St} → Steps (m >>= (λ x. done (tt {0}))) s (tt {0}) r → Does e k r b t → Does e (m >>= (λ x. k)) s b t
+passed e m k s h g = past e m k s (any e _ s h) g
 
 module _ {B : Type 0} (e : Env) (sh : Shape) (f : Bool → Acts B) (s : St) where
   ends-as : (a b : Bool) → sees e (s .p) (sh .end) ≡ a → sees e (s .p) (sh .end2) ≡ b → {r : B} {t : St} → Does e (f (pick a true b)) s r t → Does e (atListEnd sh >>= f) s r t

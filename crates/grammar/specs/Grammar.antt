@@ -31,6 +31,13 @@ when c m = pick c m (done tt)
 abbrev pub just : {A : Type 0} → Acts A → Acts (Unit {0})
 just m = m >> done tt
 
+-- `p.expect(k);` and `m.complete(p, node);`: the answer is not read
+abbrev pub expected : ℕ → Acts (Unit {0})
+expected k = just (expect k)
+
+abbrev pub completed : ℕ → ℕ → Acts (Unit {0})
+completed m node = just (complete m node)
+
 -- `p.expect(ket); m.complete(p, node);`: the end of many
 abbrev pub close : ℕ → ℕ → ℕ → Acts (Unit {0})
 close ket m node = do

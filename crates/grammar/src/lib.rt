@@ -17,7 +17,7 @@ ghost use mathlib.Core.Path.{_≡_};
 ghost use Rattle.runtime.specs.Input.{env};
 ghost use Rattle.runtime.specs.State.{view, Fit};
 ghost use Rattle.kinds.specs.Sets.{kindsOf};
-ghost use Rattle.runtime.specs.Acts.{Does};
+ghost use Rattle.runtime.specs.Acts.{Does, Steps};
 ghost use Rattle.grammar.specs.Grammar as acts;
 
 // `Option<Marker>`: a marker that is handed over, or none.
@@ -58,6 +58,24 @@ pub fn name_r(kinds: &[u16], joints: &[u64], room: &mut [u32], p: Parser, recove
         return d.p;
     }
     p.err_recover(kinds, joints, room, say::EXPECTED_A_NAME, recovery)
+}
+
+// `expect`, where the answer is not read.
+pub fn expected(kinds: &[u16], joints: &[u64], room: &mut [u32], p: Parser, kind: u16) -> Parser
+    requires { ⌜ Fit p ⌝ }
+    ensures { λ r. ⌜ Does (env (now (kinds .entry)) (now (joints .entry))) (acts.expected kind) (view p (now (room .entry))) tt (view r (now (room .exit))) ⌝ }
+{
+    let t = p.expect(kinds, joints, room, kind);
+    t.p
+}
+
+// `complete`, where the completed marker is not read.
+pub fn completed(room: &mut [u32], p: Parser, m: u32, node: u16) -> Parser
+    requires { ⌜ Fit p ⌝ }
+    ensures { λ r. ⌜ Steps (acts.completed m node) (view p (now (room .entry))) tt (view r (now (room .exit))) ⌝ }
+{
+    let d = p.complete(room, m, node);
+    d.p
 }
 
 // A kind that is to stand here, and the end of a node.

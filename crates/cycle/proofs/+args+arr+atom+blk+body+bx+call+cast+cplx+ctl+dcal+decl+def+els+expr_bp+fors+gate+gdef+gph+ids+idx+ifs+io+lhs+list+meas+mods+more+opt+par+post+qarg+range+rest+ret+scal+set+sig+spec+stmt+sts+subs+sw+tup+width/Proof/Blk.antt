@@ -1,13 +1,14 @@
 -- Written by tools/proofs from the code, the definitions and hints.py: docs/PRODUCTIONS.md says how to change it.
 -- `blk`.
 use Rattle.runtime.proofs.Laws.{then, step, any}
+use Rattle.grammar.proofs.Laws.{past}
 use native.Mathlib.Omega.{arith}
 use mathlib.Core.Path.{_∙_}
 use Prim.Native.Nat.{ℕ}
 use Rattle.grammar.specs.Atom as A
+use Rattle.grammar.proofs.expected.Reads as expected-reads
 use Rattle.runtime.proofs.parser.Parser.bump.Reads as bump-reads
 use Rattle.runtime.proofs.parser.Parser.complete.Reads as complete-reads
-use Rattle.runtime.proofs.parser.Parser.expect.Reads as expect-reads
 use Rattle.runtime.proofs.parser.Parser.must.Reads as must-reads
 use Rattle.runtime.proofs.parser.Parser.start.Reads as start-reads
 use Rattle.cycle.proofs.blk.Reads as blk
@@ -29,8 +30,8 @@ calls t = (
   bump-reads.Learnt,
   sts-below t,
   sts.Post,
-  expect-reads.Asked,
-  expect-reads.Learnt,
+  expected-reads.Asked,
+  expected-reads.Learnt,
   complete-reads.Asked,
   complete-reads.Learnt,
 )
@@ -55,29 +56,29 @@ module _ (t : ℕ) where
       .before in
       (omega (arith, entry .pre .0), bump .bump .ensures .fit)
 
-  pub expect-requires : Here lts.Need-expect-requires
-  expect-requires c κs = c .before .before .before .sts .ensures .fit
+  pub expected-requires : Here lts.Need-expected-requires
+  expected-requires c κs = c .before .before .before .sts .ensures .fit
 
   pub complete-requires : Here lts.Need-complete-requires
-  complete-requires c κs = c .before .before .before .before .expect .ensures .fit
+  complete-requires c κs = c .before .before .before .expected .ensures .fit
 
   pub same-length : Here lts.Need-same-length
   same-length c =
       let complete = c .before .before in
-      let expect = complete .before .before .before .before .before in
-      let sts = expect .before .before .before .before in
+      let expected = complete .before .before .before .before in
+      let sts = expected .before .before .before .before in
       let bump = sts .before .before .before .before in
       let start = bump .before .before .before .before .before in
       let must = start .before .before .before .before in
-      complete .complete .kept .1 .0 ∙ expect .expect .kept .1 .1 .1 .0 ∙ sts .sts .kept .1 .1 .0 ∙ bump .bump .kept .1 .1 .1 .0 ∙
+      complete .complete .kept .1 .0 ∙ expected .expected .kept .1 .1 .0 ∙ sts .sts .kept .1 .1 .0 ∙ bump .bump .kept .1 .1 .1 .0 ∙
       start .start .kept .1 .0 ∙ must .must .kept .1 .1 .1 .0
 
   pub returns : Here lts.Need-returns
   unfolding A.blockExpr
   returns c =
       let complete = c .before .before in
-      let expect = complete .before .before .before .before .before in
-      let sts = expect .before .before .before .before in
+      let expected = complete .before .before .before .before in
+      let sts = expected .before .before .before .before in
       let bump = sts .before .before .before .before in
       let start = bump .before .before .before .before .before in
       let must = start .before .before .before .before in
@@ -85,5 +86,5 @@ module _ (t : ℕ) where
       (step _ _ _ _ (start .start .ensures)
       (then _ _ _ _ (bump .bump .ensures)
       (then _ _ _ _ (sts .sts .ensures)
-      (then _ _ _ _ (expect .expect .ensures)
+      (past _ _ _ _ (expected .expected .ensures)
       (any _ _ _ (complete .complete .ensures))))))

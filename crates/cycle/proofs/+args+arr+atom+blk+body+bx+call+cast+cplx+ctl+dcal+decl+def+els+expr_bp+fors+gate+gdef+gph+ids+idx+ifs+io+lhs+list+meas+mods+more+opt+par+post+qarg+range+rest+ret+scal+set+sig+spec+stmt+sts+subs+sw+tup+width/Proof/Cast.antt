@@ -2,12 +2,13 @@
 -- `cast`.
 use borrow.Author.Needs.{needs}
 use Rattle.runtime.proofs.Laws.{then, step, any}
+use Rattle.grammar.proofs.Laws.{past}
 use native.Mathlib.Omega.{arith}
 use mathlib.Core.Path.{_∙_}
 use Prim.Native.Nat.{ℕ}
 use Rattle.grammar.specs.Atom as A
+use Rattle.grammar.proofs.expected.Reads as expected-reads
 use Rattle.runtime.proofs.parser.Parser.complete.Reads as complete-reads
-use Rattle.runtime.proofs.parser.Parser.expect.Reads as expect-reads
 use Rattle.runtime.proofs.parser.Parser.start.Reads as start-reads
 use Rattle.cycle.proofs.cast.Reads as cast
 use Rattle.cycle.proofs.expr_bp.Reads as expr-bp
@@ -25,10 +26,9 @@ calls t = (
   start-reads.Learnt,
   spec-below t,
   spec.Post,
-  expect-reads.Asked,
-  expect-reads.Learnt,
-  expr-bp-below
-      t,
+  expected-reads.Asked,
+  expected-reads.Learnt,
+  expr-bp-below t,
   expr-bp.Post,
   complete-reads.Asked,
   complete-reads.Learnt,
@@ -47,45 +47,45 @@ module _ (t : ℕ) where
       let entry = start .before .before .before .before .before in
       (omega (arith, entry .pre .0), start .start .ensures .fit)
 
-  pub expect-requires : Here lts.Need-expect-requires
-  expect-requires c κs = c .before .before .before .spec .ensures .fit
+  pub expected-requires : Here lts.Need-expected-requires
+  expected-requires c κs = c .before .before .before .spec .ensures .fit
 
   pub expr-bp-requires : Here lts.Need-expr-bp-requires
   expr-bp-requires c κs =
-      let expect = c .before .before .before .before in
-      let entry = expect .before .before .before .before .before .before .before .before .before .before .before .before .before
+      let expected = c .before .before .before in
+      let entry = expected .before .before .before .before .before .before .before .before .before .before .before .before .before
       .before in
-      (omega (arith, entry .pre .0), (expect .expect .ensures .fit, search needs))
+      (omega (arith, entry .pre .0), (expected .expected .ensures .fit, search needs))
 
-  pub expect-requires-2 : Here lts.Need-expect-requires-2
-  expect-requires-2 c κs = c .before .before .before .before .expr-bp .ensures .fit
+  pub expected-requires-2 : Here lts.Need-expected-requires-2
+  expected-requires-2 c κs = c .before .before .before .before .expr-bp .ensures .fit
 
   pub complete-requires : Here lts.Need-complete-requires
-  complete-requires c κs = c .before .before .before .before .expect2 .ensures .fit
+  complete-requires c κs = c .before .before .before .expected2 .ensures .fit
 
   pub same-length : Here lts.Need-same-length
   same-length c =
       let complete = c .before .before in
-      let expect2 = complete .before .before .before .before .before in
-      let expr-bp = expect2 .before .before .before .before .before in
-      let expect = expr-bp .before .before .before .before .before in
-      let spec = expect .before .before .before .before in
+      let expected2 = complete .before .before .before .before in
+      let expr-bp = expected2 .before .before .before .before .before in
+      let expected = expr-bp .before .before .before .before in
+      let spec = expected .before .before .before .before in
       let start = spec .before .before .before .before .before in
-      complete .complete .kept .1 .0 ∙ expect2 .expect2 .kept .1 .1 .1 .0 ∙ expr-bp .expr-bp .kept .1 .1 .0 ∙ expect .expect .kept
-      .1 .1 .1 .0 ∙ spec .spec .kept .1 .1 .0 ∙ start .start .kept .1 .0
+      complete .complete .kept .1 .0 ∙ expected2 .expected2 .kept .1 .1 .0 ∙ expr-bp .expr-bp .kept .1 .1 .0 ∙ expected .expected
+      .kept .1 .1 .0 ∙ spec .spec .kept .1 .1 .0 ∙ start .start .kept .1 .0
 
   pub returns : Here lts.Need-returns
   unfolding A.castExpr
   returns c =
       let complete = c .before .before in
-      let expect2 = complete .before .before .before .before .before in
-      let expr-bp = expect2 .before .before .before .before .before in
-      let expect = expr-bp .before .before .before .before .before in
-      let spec = expect .before .before .before .before in
+      let expected2 = complete .before .before .before .before in
+      let expr-bp = expected2 .before .before .before .before .before in
+      let expected = expr-bp .before .before .before .before in
+      let spec = expected .before .before .before .before in
       let start = spec .before .before .before .before .before in
       step _ _ _ _ (start .start .ensures)
       (then _ _ _ _ (spec .spec .ensures)
-      (then _ _ _ _ (expect .expect .ensures)
+      (past _ _ _ _ (expected .expected .ensures)
       (then _ _ _ _ (expr-bp .expr-bp .ensures)
-      (then _ _ _ _ (expect2 .expect2 .ensures)
+      (past _ _ _ _ (expected2 .expected2 .ensures)
       (any _ _ _ (complete .complete .ensures))))))

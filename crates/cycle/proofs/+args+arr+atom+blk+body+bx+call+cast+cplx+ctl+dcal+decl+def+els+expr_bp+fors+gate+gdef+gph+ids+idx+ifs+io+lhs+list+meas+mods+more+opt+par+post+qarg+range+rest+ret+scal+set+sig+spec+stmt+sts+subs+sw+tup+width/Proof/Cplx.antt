@@ -1,7 +1,7 @@
 -- Written by tools/proofs from the code, the definitions and hints.py: docs/PRODUCTIONS.md says how to change it.
 -- `cplx`.
 use borrow.Author.Needs.{needs}
-use Rattle.runtime.proofs.Laws.{then, step, see, any, ends}
+use Rattle.runtime.proofs.Laws.{then, step, see, any}
 use Rattle.grammar.proofs.Laws.{assoc, pick-bind, done-bind}
 use native.Mathlib.Omega.{arith}
 use lib.ListN.{length}
@@ -11,11 +11,11 @@ use Prim.Native.Nat.{ℕ}
 use Rattle.cycle.proofs.Depth.{complexTypeSpec-deeper}
 use Rattle.grammar.specs.Expressions as E
 use Rattle.grammar.proofs.close.Reads as close-reads
+use Rattle.grammar.proofs.completed.Reads as completed-reads
 use Rattle.grammar.proofs.fail_unless_at.Reads as fail-unless-at-reads
 use Rattle.runtime.proofs.parser.Parser.at.Reads as at-reads
 use Rattle.runtime.proofs.parser.Parser.bump.Reads as bump-reads
 use Rattle.runtime.proofs.parser.Parser.bump_any.Reads as bump-any-reads
-use Rattle.runtime.proofs.parser.Parser.complete.Reads as complete-reads
 use Rattle.runtime.proofs.parser.Parser.must.Reads as must-reads
 use Rattle.runtime.proofs.parser.Parser.start.Reads as start-reads
 use Rattle.runtime.proofs.parser.Parser.stop.Reads as stop-reads
@@ -48,8 +48,8 @@ calls t = (
   scal.Post,
   close-reads.Asked,
   close-reads.Learnt,
-  complete-reads.Asked,
-  complete-reads.Learnt,
+  completed-reads.Asked,
+  completed-reads.Learnt,
 )
 
 module _ (t : ℕ) where
@@ -149,20 +149,20 @@ module _ (t : ℕ) where
       (then _ _ _ _ (scal .scal .ensures)
       (close .close .ensures))))))))))
 
-  pub complete-requires : Here lts.Need-complete-requires
-  complete-requires c κs = c .before .before .before .before .before .bump-any .ensures .fit
+  pub completed-requires : Here lts.Need-completed-requires
+  completed-requires c κs = c .before .before .before .before .before .bump-any .ensures .fit
 
   pub same-length-3 : Here lts.Need-same-length-3
   same-length-3 c =
-      let complete = c .before .before .before in
-      let bump-any = complete .before .before .before .before .before .before in
-      complete .complete .kept .1 .0 ∙ kept-bump-any bump-any
+      let completed = c .before .before in
+      let bump-any = completed .before .before .before .before .before .before in
+      completed .completed .kept .0 ∙ kept-bump-any bump-any
 
   pub returns-3 : Here lts.Need-returns-3
   unfolding E.complexTypeSpec
   returns-3 c =
-      let complete = c .before .before .before in
-      let if2 = complete .before .before in
+      let completed = c .before .before in
+      let if2 = completed .before .before in
       let at = if2 .before in
       let bump-any = at .before .before .before in
       let start = bump-any .before .before .before .before .before in
@@ -175,5 +175,4 @@ module _ (t : ℕ) where
       (then _ _ _ _ (bump-any .bump-any .ensures)
       (see _ _ _ _ (at .at .ensures)
       (rw (if2 .if2 .left)
-      (step _ _ _ _ (complete .complete .ensures)
-      (ends _ _ _ (complete .complete .ensures .fit)))))))))
+      (any _ _ _ (completed .completed .ensures))))))))

@@ -2,7 +2,7 @@
 -- `ctl`.
 use borrow.Author.Needs.{needs}
 use Rattle.runtime.proofs.Laws.{then, step, see}
-use Rattle.grammar.proofs.Laws.{assoc, pick-bind, done-bind}
+use Rattle.grammar.proofs.Laws.{assoc, pick-bind, done-bind, past, passed}
 use native.Mathlib.Omega.{arith}
 use lib.ListN.{length}
 use mathlib.Core.Path.{_≡_, _∙_}
@@ -10,10 +10,10 @@ use Prim.Native.Nat.{ℕ}
 use Rattle.grammar.specs.Atom as A
 use Rattle.grammar.proofs.atom.no_argument.Reads as no-argument-reads
 use Rattle.grammar.proofs.close.Reads as close-reads
+use Rattle.grammar.proofs.completed.Reads as completed-reads
+use Rattle.grammar.proofs.expected.Reads as expected-reads
 use Rattle.runtime.proofs.parser.Parser.at.Reads as at-reads
 use Rattle.runtime.proofs.parser.Parser.bump.Reads as bump-reads
-use Rattle.runtime.proofs.parser.Parser.complete.Reads as complete-reads
-use Rattle.runtime.proofs.parser.Parser.expect.Reads as expect-reads
 use Rattle.runtime.proofs.parser.Parser.start.Reads as start-reads
 use Rattle.cycle.proofs.ctl.Reads as ctl
 use Rattle.cycle.proofs.expr_bp.Reads as expr-bp
@@ -32,12 +32,12 @@ calls t = (
   bump-reads.Learnt,
   at-reads.Asked,
   at-reads.Learnt,
-  expect-reads.Asked,
-  expect-reads.Learnt,
+  expected-reads.Asked,
+  expected-reads.Learnt,
   expr-bp-below t,
   expr-bp.Post,
-  complete-reads.Asked,
-  complete-reads.Learnt,
+  completed-reads.Asked,
+  completed-reads.Learnt,
   close-reads.Asked,
   close-reads.Learnt,
   no-argument-reads.Asked,
@@ -64,46 +64,46 @@ module _ (t : ℕ) where
   pub start-requires-2 : Here lts.Need-start-requires-2
   start-requires-2 c κs = c .before .before .before .before .before .bump .ensures .fit
 
-  pub expect-requires : Here lts.Need-expect-requires
-  expect-requires c κs = c .before .before .before .before .start2 .ensures .fit
+  pub expected-requires : Here lts.Need-expected-requires
+  expected-requires c κs = c .before .before .before .before .start2 .ensures .fit
 
   pub expr-bp-requires : Here lts.Need-expr-bp-requires
   expr-bp-requires c κs =
-      let expect = c .before .before .before .before in
-      let entry = expect .before .before .before .before .before .before .before .before .before .before .before .before .before
+      let expected = c .before .before .before in
+      let entry = expected .before .before .before .before .before .before .before .before .before .before .before .before .before
       .before .before .before .before .before .before .before .before in
-      (omega (arith, entry .pre .0), (expect .expect .ensures .fit, search needs))
+      (omega (arith, entry .pre .0), (expected .expected .ensures .fit, search needs))
 
-  pub expect-requires-2 : Here lts.Need-expect-requires-2
-  expect-requires-2 c κs = c .before .before .before .before .expr-bp .ensures .fit
+  pub expected-requires-2 : Here lts.Need-expected-requires-2
+  expected-requires-2 c κs = c .before .before .before .before .expr-bp .ensures .fit
 
-  pub complete-requires : Here lts.Need-complete-requires
-  complete-requires c κs = c .before .before .before .before .expect2 .ensures .fit
+  pub completed-requires : Here lts.Need-completed-requires
+  completed-requires c κs = c .before .before .before .expected2 .ensures .fit
 
   pub close-requires : Here lts.Need-close-requires
-  close-requires c κs = c .before .before .before .before .complete .ensures .fit
+  close-requires c κs = c .before .before .before .completed .ensures .fit
 
   pub same-length : Here lts.Need-same-length
   same-length c =
       let close = c .before .before in
-      let complete = close .before .before .before .before .before in
-      let expect2 = complete .before .before .before .before .before in
-      let expr-bp = expect2 .before .before .before .before .before in
-      let expect = expr-bp .before .before .before .before .before in
-      let start2 = expect .before .before .before .before .before in
+      let completed = close .before .before .before .before in
+      let expected2 = completed .before .before .before .before in
+      let expr-bp = expected2 .before .before .before .before .before in
+      let expected = expr-bp .before .before .before .before in
+      let start2 = expected .before .before .before .before .before in
       let bump = start2 .before .before .before .before .before .before in
-      close .close .kept .1 .1 .0 ∙ complete .complete .kept .1 .0 ∙ expect2 .expect2 .kept .1 .1 .1 .0 ∙ expr-bp .expr-bp .kept .1
-      .1 .0 ∙ expect .expect .kept .1 .1 .1 .0 ∙ start2 .start2 .kept .1 .0 ∙ kept-bump bump
+      close .close .kept .1 .1 .0 ∙ completed .completed .kept .0 ∙ expected2 .expected2 .kept .1 .1 .0 ∙ expr-bp .expr-bp .kept .1
+      .1 .0 ∙ expected .expected .kept .1 .1 .0 ∙ start2 .start2 .kept .1 .0 ∙ kept-bump bump
 
   pub returns : Here lts.Need-returns
   unfolding A.modifier
   returns c =
       let close = c .before .before in
-      let complete = close .before .before .before .before .before in
-      let expect2 = complete .before .before .before .before .before in
-      let expr-bp = expect2 .before .before .before .before .before in
-      let expect = expr-bp .before .before .before .before .before in
-      let start2 = expect .before .before .before .before .before in
+      let completed = close .before .before .before .before in
+      let expected2 = completed .before .before .before .before in
+      let expr-bp = expected2 .before .before .before .before .before in
+      let expected = expr-bp .before .before .before .before in
+      let start2 = expected .before .before .before .before .before in
       let if1 = start2 .before .before in
       let at = if1 .before in
       let bump = at .before .before .before in
@@ -114,10 +114,10 @@ module _ (t : ℕ) where
       (see _ _ _ _ (at .at .ensures)
       (rw (if1 .if1 .taken)
       (step _ _ _ _ (start2 .start2 .ensures)
-      (then _ _ _ _ (expect .expect .ensures)
+      (past _ _ _ _ (expected .expected .ensures)
       (then _ _ _ _ (expr-bp .expr-bp .ensures)
-      (then _ _ _ _ (expect2 .expect2 .ensures)
-      (step _ _ _ _ (complete .complete .ensures)
+      (past _ _ _ _ (expected2 .expected2 .ensures)
+      (passed _ _ _ _ (completed .completed .ensures)
       (close .close .ensures))))))))))
 
   pub no-argument-requires : Here lts.Need-no-argument-requires

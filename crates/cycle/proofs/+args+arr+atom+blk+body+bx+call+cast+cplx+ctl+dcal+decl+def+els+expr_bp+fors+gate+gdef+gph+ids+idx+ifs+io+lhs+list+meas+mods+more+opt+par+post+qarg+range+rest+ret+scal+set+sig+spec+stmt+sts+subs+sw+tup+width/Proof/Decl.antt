@@ -1,7 +1,8 @@
 -- Written by tools/proofs from the code, the definitions and hints.py: docs/PRODUCTIONS.md says how to change it.
 -- `decl`.
 use borrow.Author.Needs.{needs}
-use Rattle.runtime.proofs.Laws.{then, step, peek, see, any, ends}
+use Rattle.runtime.proofs.Laws.{then, step, peek, see, any}
+use Rattle.grammar.proofs.Laws.{past, passed}
 use borrow.Author.Tests.{ne-eqb, eq-eqb}
 use native.Mathlib.Omega.{arith}
 use lib.ListN.{length}
@@ -9,10 +10,11 @@ use mathlib.Core.Path.{_≡_, _∙_}
 use Prim.Native.Nat.{ℕ}
 use Rattle.grammar.specs.Items as I
 use Rattle.grammar.proofs.close.Reads as close-reads
+use Rattle.grammar.proofs.completed.Reads as completed-reads
+use Rattle.grammar.proofs.expected.Reads as expected-reads
 use Rattle.grammar.proofs.expressions.var_name.Reads as var-name-reads
 use Rattle.runtime.proofs.parser.Parser.abandon.Reads as abandon-reads
 use Rattle.runtime.proofs.parser.Parser.at.Reads as at-reads
-use Rattle.runtime.proofs.parser.Parser.complete.Reads as complete-reads
 use Rattle.runtime.proofs.parser.Parser.current.Reads as current-reads
 use Rattle.runtime.proofs.parser.Parser.eat.Reads as eat-reads
 use Rattle.runtime.proofs.parser.Parser.expect.Reads as expect-reads
@@ -37,12 +39,12 @@ calls t = (
   spec.Post,
   current-reads.Asked,
   current-reads.Learnt,
-  expect-reads.Asked,
-  expect-reads.Learnt,
+  expected-reads.Asked,
+  expected-reads.Learnt,
   expr-bp-below t,
   expr-bp.Post,
-  complete-reads.Asked,
-  complete-reads.Learnt,
+  completed-reads.Asked,
+  completed-reads.Learnt,
   at-reads.Asked,
   at-reads.Learnt,
   close-reads.Asked,
@@ -51,6 +53,8 @@ calls t = (
   abandon-reads.Learnt,
   var-name-reads.Asked,
   var-name-reads.Learnt,
+  expect-reads.Asked,
+  expect-reads.Learnt,
 )
 
 module _ (t : ℕ) where
@@ -75,14 +79,14 @@ module _ (t : ℕ) where
   abbrev entry-struct-known : Here lts.After-struct-known → Here lts.Start
   entry-struct-known c = entry-spec (c .before .before .before .before .before)
 
-  abbrev entry-if1-left : Here lts.Else1 → Here lts.Start
-  entry-if1-left c = entry-struct-known (c .before)
-
   abbrev entry-expr-bp : Here lts.After-expr-bp → Here lts.Start
-  entry-expr-bp c = entry-struct-known (c .before .before .before .before .before .before .before .before)
+  entry-expr-bp c = entry-struct-known (c .before .before .before .before .before .before .before)
+
+  abbrev entry-var-name : Here lts.After-var-name → Here lts.Start
+  entry-var-name c = entry-struct-known (c .before .before .before .before .before .before .before)
 
   abbrev entry-eat2 : Here lts.After-eat2 → Here lts.Start
-  entry-eat2 c = entry-if1-left (c .before .before .before .before .before .before .before .before .before .before)
+  entry-eat2 c = entry-var-name (c .before .before .before .before)
 
   kept-eat2 : (c : Here lts.After-eat2) → length (c .eat2 .last .1 .1 .1 .0) ≡ length (entry-eat2 c .args .room .now)
   kept-eat2 c =
@@ -91,23 +95,23 @@ module _ (t : ℕ) where
       let spec = abandon2 .before .before .before .before .before .before .before .before in
       c .eat2 .kept .1 .1 .1 .0 ∙ var-name .var-name .kept .1 .1 .0 ∙ abandon2 .abandon2 .kept .1 .0 ∙ kept-spec spec
 
-  abbrev entry-expect3 : Here lts.After-expect3 → Here lts.Start
-  entry-expect3 c = entry-eat2 (c .before .before .before .before .before .before)
+  abbrev entry-completed : Here lts.After-completed → Here lts.Start
+  entry-completed c = entry-expr-bp (c .before .before .before .before .before .before .before .before .before)
 
-  kept-expect3 : (c : Here lts.After-expect3) → length (c .expect3 .last .1 .1 .1 .0) ≡ length (entry-expect3 c .args .room .now)
-  kept-expect3 c = c .expect3 .kept .1 .1 .1 .0 ∙ kept-eat2 (c .before .before .before .before .before .before)
-
-  abbrev entry-complete : Here lts.After-complete → Here lts.Start
-  entry-complete c = entry-expr-bp (c .before .before .before .before .before .before .before .before .before .before)
-
-  kept-complete : (c : Here lts.After-complete) → length (c .complete .last .1 .0) ≡ length (entry-complete c .args .room .now)
-  kept-complete c =
-      let expect2 = c .before .before .before .before .before in
-      let expr-bp = expect2 .before .before .before .before .before in
-      let expect = expr-bp .before .before .before .before .before in
-      let spec = expect .before .before .before .before .before .before .before .before in
-      c .complete .kept .1 .0 ∙ expect2 .expect2 .kept .1 .1 .1 .0 ∙ expr-bp .expr-bp .kept .1 .1 .0 ∙ expect .expect .kept .1 .1
+  kept-completed : (c : Here lts.After-completed) → length (c .completed .last .0) ≡ length (entry-completed c .args .room .now)
+  kept-completed c =
+      let expected2 = c .before .before .before .before in
+      let expr-bp = expected2 .before .before .before .before .before in
+      let expected = expr-bp .before .before .before .before in
+      let spec = expected .before .before .before .before .before .before .before .before in
+      c .completed .kept .0 ∙ expected2 .expected2 .kept .1 .1 .0 ∙ expr-bp .expr-bp .kept .1 .1 .0 ∙ expected .expected .kept .1
       .1 .0 ∙ kept-spec spec
+
+  abbrev entry-expect : Here lts.After-expect → Here lts.Start
+  entry-expect c = entry-eat2 (c .before .before .before .before .before .before)
+
+  kept-expect : (c : Here lts.After-expect) → length (c .expect .last .1 .1 .1 .0) ≡ length (entry-expect c .args .room .now)
+  kept-expect c = c .expect .kept .1 .1 .1 .0 ∙ kept-eat2 (c .before .before .before .before .before .before)
 
   pub eat-requires : Here lts.Need-eat-requires
   eat-requires c κs = c .before .before .before .before .pre .1
@@ -121,32 +125,32 @@ module _ (t : ℕ) where
   pub current-requires : Here lts.Need-current-requires
   current-requires c κs = c .before .before .spec .ensures .fit
 
-  pub expect-requires : Here lts.Need-expect-requires
-  expect-requires c κs = c .before .before .before .before .current .ensures .fit
+  pub expected-requires : Here lts.Need-expected-requires
+  expected-requires c κs = c .before .before .before .before .current .ensures .fit
 
   pub expr-bp-requires : Here lts.Need-expr-bp-requires
   expr-bp-requires c κs =
-      let expect = c .before .before .before .before in
-      let struct-known = expect .before .before .before in
-      (omega (arith, entry-struct-known struct-known .pre .0), (expect .expect .ensures .fit, search needs))
+      let expected = c .before .before .before in
+      let struct-known = expected .before .before .before in
+      (omega (arith, entry-struct-known struct-known .pre .0), (expected .expected .ensures .fit, search needs))
 
-  pub expect-requires-2 : Here lts.Need-expect-requires-2
-  expect-requires-2 c κs = c .before .before .before .before .expr-bp .ensures .fit
+  pub expected-requires-2 : Here lts.Need-expected-requires-2
+  expected-requires-2 c κs = c .before .before .before .before .expr-bp .ensures .fit
 
-  pub complete-requires : Here lts.Need-complete-requires
-  complete-requires c κs = c .before .before .before .before .expect2 .ensures .fit
+  pub completed-requires : Here lts.Need-completed-requires
+  completed-requires c κs = c .before .before .before .expected2 .ensures .fit
 
   pub at-requires : Here lts.Need-at-requires
-  at-requires c κs = c .before .before .before .complete .ensures .fit
+  at-requires c κs = c .before .before .completed .ensures .fit
 
   pub close-requires : Here lts.Need-close-requires
-  close-requires c κs = c .before .before .before .before .before .before .complete .ensures .fit
+  close-requires c κs = c .before .before .before .before .before .completed .ensures .fit
 
   pub same-length : Here lts.Need-same-length
   same-length c =
       let close = c .before .before in
-      let complete = close .before .before .before .before .before .before .before in
-      close .close .kept .1 .1 .0 ∙ kept-complete complete
+      let completed = close .before .before .before .before .before .before in
+      close .close .kept .1 .1 .0 ∙ kept-completed completed
 
   pub returns : Here lts.Need-returns
   unfolding I.classicalDeclarationStmt
@@ -154,11 +158,11 @@ module _ (t : ℕ) where
       let close = c .before .before in
       let if2 = close .before .before in
       let at = if2 .before in
-      let complete = at .before .before .before .before in
-      let expect2 = complete .before .before .before .before .before in
-      let expr-bp = expect2 .before .before .before .before .before in
-      let expect = expr-bp .before .before .before .before .before in
-      let if1 = expect .before .before in
+      let completed = at .before .before .before in
+      let expected2 = completed .before .before .before .before in
+      let expr-bp = expected2 .before .before .before .before .before in
+      let expected = expr-bp .before .before .before .before in
+      let if1 = expected .before .before in
       let current = if1 .before .before .before in
       let spec = current .before .before .before in
       let start = spec .before .before .before .before .before in
@@ -168,22 +172,22 @@ module _ (t : ℕ) where
       (then _ _ _ _ (spec .spec .ensures)
       (peek _ _ _ _ _ (current .current .ensures)
       (rw (eq-eqb _ _ (if1 .if1 .taken))
-      (then _ _ _ _ (expect .expect .ensures)
+      (past _ _ _ _ (expected .expected .ensures)
       (then _ _ _ _ (expr-bp .expr-bp .ensures)
-      (then _ _ _ _ (expect2 .expect2 .ensures)
-      (step _ _ _ _ (complete .complete .ensures)
+      (past _ _ _ _ (expected2 .expected2 .ensures)
+      (passed _ _ _ _ (completed .completed .ensures)
       (see _ _ _ _ (at .at .ensures)
       (rw (if2 .if2 .taken)
       (close .close .ensures)))))))))))
 
   pub abandon-requires : Here lts.Need-abandon-requires
-  abandon-requires c κs = c .before .before .before .before .before .before .complete .ensures .fit
+  abandon-requires c κs = c .before .before .before .before .before .completed .ensures .fit
 
   pub same-length-2 : Here lts.Need-same-length-2
   same-length-2 c =
       let abandon = c .before .before in
-      let complete = abandon .before .before .before .before .before .before .before in
-      abandon .abandon .kept .1 .0 ∙ kept-complete complete
+      let completed = abandon .before .before .before .before .before .before in
+      abandon .abandon .kept .1 .0 ∙ kept-completed completed
 
   pub returns-2 : Here lts.Need-returns-2
   unfolding I.classicalDeclarationStmt
@@ -191,11 +195,11 @@ module _ (t : ℕ) where
       let abandon = c .before .before in
       let if2 = abandon .before .before in
       let at = if2 .before in
-      let complete = at .before .before .before .before in
-      let expect2 = complete .before .before .before .before .before in
-      let expr-bp = expect2 .before .before .before .before .before in
-      let expect = expr-bp .before .before .before .before .before in
-      let if1 = expect .before .before in
+      let completed = at .before .before .before in
+      let expected2 = completed .before .before .before .before in
+      let expr-bp = expected2 .before .before .before .before .before in
+      let expected = expr-bp .before .before .before .before in
+      let if1 = expected .before .before in
       let current = if1 .before .before .before in
       let spec = current .before .before .before in
       let start = spec .before .before .before .before .before in
@@ -205,10 +209,10 @@ module _ (t : ℕ) where
       (then _ _ _ _ (spec .spec .ensures)
       (peek _ _ _ _ _ (current .current .ensures)
       (rw (eq-eqb _ _ (if1 .if1 .taken))
-      (then _ _ _ _ (expect .expect .ensures)
+      (past _ _ _ _ (expected .expected .ensures)
       (then _ _ _ _ (expr-bp .expr-bp .ensures)
-      (then _ _ _ _ (expect2 .expect2 .ensures)
-      (step _ _ _ _ (complete .complete .ensures)
+      (past _ _ _ _ (expected2 .expected2 .ensures)
+      (passed _ _ _ _ (completed .completed .ensures)
       (see _ _ _ _ (at .at .ensures)
       (rw (if2 .if2 .left)
       (any _ _ _ (abandon .abandon .ensures))))))))))))
@@ -222,20 +226,20 @@ module _ (t : ℕ) where
   pub eat-requires-2 : Here lts.Need-eat-requires-2
   eat-requires-2 c κs = c .before .before .before .var-name .ensures .fit
 
-  pub complete-requires-2 : Here lts.Need-complete-requires-2
-  complete-requires-2 c κs = c .before .before .before .before .before .eat2 .ensures .fit
+  pub completed-requires-2 : Here lts.Need-completed-requires-2
+  completed-requires-2 c κs = c .before .before .before .before .before .eat2 .ensures .fit
 
   pub same-length-3 : Here lts.Need-same-length-3
   same-length-3 c =
-      let complete2 = c .before .before .before in
-      let eat2 = complete2 .before .before .before .before .before .before in
-      complete2 .complete2 .kept .1 .0 ∙ kept-eat2 eat2
+      let completed2 = c .before .before in
+      let eat2 = completed2 .before .before .before .before .before .before in
+      completed2 .completed2 .kept .0 ∙ kept-eat2 eat2
 
   pub returns-3 : Here lts.Need-returns-3
   unfolding I.classicalDeclarationStmt
   returns-3 c =
-      let complete2 = c .before .before .before in
-      let if3 = complete2 .before .before in
+      let completed2 = c .before .before in
+      let if3 = completed2 .before .before in
       let eat2 = if3 .before .before .before .before in
       let var-name = eat2 .before .before .before .before in
       let abandon2 = var-name .before .before .before .before in
@@ -253,18 +257,17 @@ module _ (t : ℕ) where
       (then _ _ _ _ (var-name .var-name .ensures)
       (then _ _ _ _ (eat2 .eat2 .ensures)
       (rw (if3 .if3 .taken)
-      (step _ _ _ _ (complete2 .complete2 .ensures)
-      (ends _ _ _ (complete2 .complete2 .ensures .fit)))))))))))
+      (any _ _ _ (completed2 .completed2 .ensures))))))))))
 
-  pub expect-requires-3 : Here lts.Need-expect-requires-3
-  expect-requires-3 c κs = c .before .before .before .before .before .eat2 .ensures .fit
+  pub expect-requires : Here lts.Need-expect-requires
+  expect-requires c κs = c .before .before .before .before .before .eat2 .ensures .fit
 
   pub expr-bp-requires-2 : Here lts.Need-expr-bp-requires-2
   expr-bp-requires-2 c κs = (
-    omega (arith, entry-expect3 (c .before .before .before .before .before) .pre .0),
+    omega (arith, entry-expect (c .before .before .before .before .before) .pre .0),
     (
       c .before .before
-          .before .before .before .expect3 .ensures .fit,
+          .before .before .before .expect .ensures .fit,
       search needs,
     ),
   )
@@ -276,8 +279,8 @@ module _ (t : ℕ) where
   same-length-4 c =
       let close2 = c .before .before in
       let expr-bp2 = close2 .before .before .before .before .before in
-      let expect3 = expr-bp2 .before .before .before .before .before .before in
-      close2 .close2 .kept .1 .1 .0 ∙ expr-bp2 .expr-bp2 .kept .1 .1 .0 ∙ kept-expect3 expect3
+      let expect = expr-bp2 .before .before .before .before .before .before in
+      close2 .close2 .kept .1 .1 .0 ∙ expr-bp2 .expr-bp2 .kept .1 .1 .0 ∙ kept-expect expect
 
   pub returns-4 : Here lts.Need-returns-4
   unfolding I.classicalDeclarationStmt
@@ -285,8 +288,8 @@ module _ (t : ℕ) where
       let close2 = c .before .before in
       let expr-bp2 = close2 .before .before .before .before .before in
       let if4 = expr-bp2 .before .before in
-      let expect3 = if4 .before .before .before .before in
-      let if3 = expect3 .before .before in
+      let expect = if4 .before .before .before .before in
+      let if3 = expect .before .before in
       let eat2 = if3 .before .before .before .before in
       let var-name = eat2 .before .before .before .before in
       let abandon2 = var-name .before .before .before .before in
@@ -304,27 +307,27 @@ module _ (t : ℕ) where
       (then _ _ _ _ (var-name .var-name .ensures)
       (then _ _ _ _ (eat2 .eat2 .ensures)
       (rw (if3 .if3 .left)
-      (then _ _ _ _ (expect3 .expect3 .ensures)
+      (then _ _ _ _ (expect .expect .ensures)
       (rw (if4 .if4 .taken)
       (then _ _ _ _ (expr-bp2 .expr-bp2 .ensures)
       (close2 .close2 .ensures))))))))))))
 
   pub abandon-requires-3 : Here lts.Need-abandon-requires-3
-  abandon-requires-3 c κs = c .before .before .before .before .before .expect3 .ensures .fit
+  abandon-requires-3 c κs = c .before .before .before .before .before .expect .ensures .fit
 
   pub same-length-5 : Here lts.Need-same-length-5
   same-length-5 c =
       let abandon3 = c .before .before in
-      let expect3 = abandon3 .before .before .before .before .before .before in
-      abandon3 .abandon3 .kept .1 .0 ∙ kept-expect3 expect3
+      let expect = abandon3 .before .before .before .before .before .before in
+      abandon3 .abandon3 .kept .1 .0 ∙ kept-expect expect
 
   pub returns-5 : Here lts.Need-returns-5
   unfolding I.classicalDeclarationStmt
   returns-5 c =
       let abandon3 = c .before .before in
       let if4 = abandon3 .before .before in
-      let expect3 = if4 .before .before .before .before in
-      let if3 = expect3 .before .before in
+      let expect = if4 .before .before .before .before in
+      let if3 = expect .before .before in
       let eat2 = if3 .before .before .before .before in
       let var-name = eat2 .before .before .before .before in
       let abandon2 = var-name .before .before .before .before in
@@ -342,6 +345,6 @@ module _ (t : ℕ) where
       (then _ _ _ _ (var-name .var-name .ensures)
       (then _ _ _ _ (eat2 .eat2 .ensures)
       (rw (if3 .if3 .left)
-      (then _ _ _ _ (expect3 .expect3 .ensures)
+      (then _ _ _ _ (expect .expect .ensures)
       (rw (if4 .if4 .left)
       (any _ _ _ (abandon3 .abandon3 .ensures))))))))))))

@@ -45,11 +45,11 @@ module _ (t : ℕ) where
   abbrev Here : (lts.Claims → In 3 kinds.ps → Out 3 kinds.ps kinds.r → Type 0) → Type 0
   Here X = X (calls t) (def-at t) def.Post
 
-  abbrev entry-bump-any : Here lts.After-bump-any → Here lts.Start
-  entry-bump-any c = c .before .before .before .before .before .before .before .before .before
+  abbrev entry-must : Here lts.After-must → Here lts.Start
+  entry-must c = c .before .before .before .before .before
 
   abbrev entry-name-r : Here lts.After-name-r → Here lts.Start
-  entry-name-r c = entry-bump-any (c .before .before .before .before)
+  entry-name-r c = entry-must (c .before .before .before .before .before .before .before .before)
 
   kept-name-r : (c : Here lts.After-name-r) → length (c .name-r .last .1 .1 .0) ≡ length (entry-name-r c .args .room .now)
   kept-name-r c =

@@ -2,16 +2,16 @@
 -- `fors`.
 use borrow.Author.Needs.{needs}
 use Rattle.runtime.proofs.Laws.{then, step, see}
-use Rattle.grammar.proofs.Laws.{assoc, pick-bind, done-bind}
+use Rattle.grammar.proofs.Laws.{assoc, pick-bind, done-bind, past}
 use native.Mathlib.Omega.{arith}
 use lib.ListN.{length}
 use mathlib.Core.Path.{_≡_, _∙_}
 use Prim.Native.Nat.{ℕ}
 use Rattle.grammar.specs.Items as I
+use Rattle.grammar.proofs.expected.Reads as expected-reads
 use Rattle.grammar.proofs.name_r.Reads as name-r-reads
 use Rattle.runtime.proofs.parser.Parser.at.Reads as at-reads
 use Rattle.runtime.proofs.parser.Parser.bump.Reads as bump-reads
-use Rattle.runtime.proofs.parser.Parser.expect.Reads as expect-reads
 use Rattle.runtime.proofs.parser.Parser.must.Reads as must-reads
 use Rattle.runtime.proofs.parser.Parser.start.Reads as start-reads
 use Rattle.cycle.proofs.expr_bp.Reads as expr-bp
@@ -37,8 +37,8 @@ calls t = (
   spec.Post,
   name-r-reads.Asked,
   name-r-reads.Learnt,
-  expect-reads.Asked,
-  expect-reads.Learnt,
+  expected-reads.Asked,
+  expected-reads.Learnt,
   start-reads.Asked,
   start-reads.Learnt,
   at-reads.Asked,
@@ -63,20 +63,20 @@ module _ (t : ℕ) where
   abbrev entry-spec-arg : Here lts.After-spec-arg → Here lts.Start
   entry-spec-arg c = entry-must (c .before .before .before .before .before .before .before)
 
-  abbrev entry-expect : Here lts.After-expect → Here lts.Start
-  entry-expect c = entry-spec-arg (c .before .before .before .before .before .before .before .before .before)
+  abbrev entry-name-r : Here lts.After-name-r → Here lts.Start
+  entry-name-r c = entry-spec-arg (c .before .before .before .before .before)
 
   abbrev entry-start : Here lts.After-start → Here lts.Start
-  entry-start c = entry-expect (c .before .before .before .before .before)
+  entry-start c = entry-name-r (c .before .before .before .before .before .before .before .before)
 
   kept-start : (c : Here lts.After-start) → length (c .start .last .1 .0) ≡ length (entry-start c .args .room .now)
   kept-start c =
-      let expect = c .before .before .before .before .before in
-      let name-r = expect .before .before .before .before in
+      let expected = c .before .before .before .before in
+      let name-r = expected .before .before .before .before in
       let spec = name-r .before .before .before .before in
       let bump = spec .before .before .before .before in
       let must = bump .before .before .before .before in
-      c .start .kept .1 .0 ∙ expect .expect .kept .1 .1 .1 .0 ∙ name-r .name-r .kept .1 .1 .0 ∙ spec .spec .kept .1 .1 .0 ∙ bump
+      c .start .kept .1 .0 ∙ expected .expected .kept .1 .1 .0 ∙ name-r .name-r .kept .1 .1 .0 ∙ spec .spec .kept .1 .1 .0 ∙ bump
       .bump .kept .1 .1 .1 .0 ∙ must .must .kept .1 .1 .1 .0
 
   abbrev entry-at : Here lts.After-at → Here lts.Start
@@ -106,11 +106,11 @@ module _ (t : ℕ) where
   pub name-r-requires : Here lts.Need-name-r-requires
   name-r-requires c κs = c .before .before .before .spec .ensures .fit
 
-  pub expect-requires : Here lts.Need-expect-requires
-  expect-requires c κs = c .before .before .before .name-r .ensures .fit
+  pub expected-requires : Here lts.Need-expected-requires
+  expected-requires c κs = c .before .before .before .name-r .ensures .fit
 
   pub start-requires : Here lts.Need-start-requires
-  start-requires c κs = c .before .before .before .before .expect .ensures .fit
+  start-requires c κs = c .before .before .before .expected .ensures .fit
 
   pub at-requires : Here lts.Need-at-requires
   at-requires c κs = c .before .before .before .start .ensures .fit
@@ -143,8 +143,8 @@ module _ (t : ℕ) where
       let if1 = set .before .before in
       let at = if1 .before in
       let start = at .before .before .before .before in
-      let expect = start .before .before .before .before .before in
-      let name-r = expect .before .before .before .before in
+      let expected = start .before .before .before .before in
+      let name-r = expected .before .before .before .before in
       let spec = name-r .before .before .before .before in
       let bump = spec .before .before .before .before in
       let must = bump .before .before .before .before in
@@ -153,7 +153,7 @@ module _ (t : ℕ) where
       (then _ _ _ _ (bump .bump .ensures)
       (then _ _ _ _ (spec .spec .ensures)
       (then _ _ _ _ (name-r .name-r .ensures)
-      (then _ _ _ _ (expect .expect .ensures)
+      (past _ _ _ _ (expected .expected .ensures)
       (step _ _ _ _ (start .start .ensures)
       (see _ _ _ _ (at .at .ensures)
       (rw (if1 .if1 .taken)
@@ -193,8 +193,8 @@ module _ (t : ℕ) where
       let if1 = at2 .before in
       let at = if1 .before in
       let start = at .before .before .before .before in
-      let expect = start .before .before .before .before .before in
-      let name-r = expect .before .before .before .before in
+      let expected = start .before .before .before .before in
+      let name-r = expected .before .before .before .before in
       let spec = name-r .before .before .before .before in
       let bump = spec .before .before .before .before in
       let must = bump .before .before .before .before in
@@ -203,7 +203,7 @@ module _ (t : ℕ) where
       (then _ _ _ _ (bump .bump .ensures)
       (then _ _ _ _ (spec .spec .ensures)
       (then _ _ _ _ (name-r .name-r .ensures)
-      (then _ _ _ _ (expect .expect .ensures)
+      (past _ _ _ _ (expected .expected .ensures)
       (step _ _ _ _ (start .start .ensures)
       (see _ _ _ _ (at .at .ensures)
       (rw (if1 .if1 .left)
@@ -245,8 +245,8 @@ module _ (t : ℕ) where
       let if1 = at2 .before in
       let at = if1 .before in
       let start = at .before .before .before .before in
-      let expect = start .before .before .before .before .before in
-      let name-r = expect .before .before .before .before in
+      let expected = start .before .before .before .before in
+      let name-r = expected .before .before .before .before in
       let spec = name-r .before .before .before .before in
       let bump = spec .before .before .before .before in
       let must = bump .before .before .before .before in
@@ -255,7 +255,7 @@ module _ (t : ℕ) where
       (then _ _ _ _ (bump .bump .ensures)
       (then _ _ _ _ (spec .spec .ensures)
       (then _ _ _ _ (name-r .name-r .ensures)
-      (then _ _ _ _ (expect .expect .ensures)
+      (past _ _ _ _ (expected .expected .ensures)
       (step _ _ _ _ (start .start .ensures)
       (see _ _ _ _ (at .at .ensures)
       (rw (if1 .if1 .left)

@@ -1,6 +1,6 @@
 -- Written by tools/proofs from the code, the definitions and hints.py: docs/PRODUCTIONS.md says how to change it.
 -- `gdef`.
-use Rattle.runtime.proofs.Laws.{then, step, see, ends}
+use Rattle.runtime.proofs.Laws.{then, see, any}
 use Rattle.grammar.proofs.Laws.{assoc, pick-bind, done-bind}
 use native.Mathlib.Omega.{arith}
 use lib.ListN.{length}
@@ -8,10 +8,10 @@ use mathlib.Core.Path.{_≡_, _∙_}
 use Prim.Native.Nat.{ℕ}
 use Rattle.grammar.specs.Params as P
 use Rattle.grammar.specs.Items as I
+use Rattle.grammar.proofs.completed.Reads as completed-reads
 use Rattle.grammar.proofs.name_r.Reads as name-r-reads
 use Rattle.runtime.proofs.parser.Parser.at.Reads as at-reads
 use Rattle.runtime.proofs.parser.Parser.bump.Reads as bump-reads
-use Rattle.runtime.proofs.parser.Parser.complete.Reads as complete-reads
 use Rattle.cycle.proofs.body.Reads as body
 use Rattle.cycle.proofs.gdef.Reads as gdef
 use Rattle.cycle.proofs.list.Reads as list
@@ -34,8 +34,8 @@ calls t = (
   list.Post,
   body-below t,
   body.Post,
-  complete-reads.Asked,
-  complete-reads.Learnt,
+  completed-reads.Asked,
+  completed-reads.Learnt,
 )
 
 module _ (t : ℕ) where
@@ -82,24 +82,24 @@ module _ (t : ℕ) where
       let list-arg2 = list2 .before in
       (omega (arith, entry-list-arg2 list-arg2 .pre .0), list2 .list2 .ensures .fit)
 
-  pub complete-requires : Here lts.Need-complete-requires
-  complete-requires c κs = c .before .before .before .body .ensures .fit
+  pub completed-requires : Here lts.Need-completed-requires
+  completed-requires c κs = c .before .before .before .body .ensures .fit
 
   pub same-length : Here lts.Need-same-length
   same-length c =
-      let complete = c .before .before .before in
-      let body = complete .before .before .before .before in
+      let completed = c .before .before in
+      let body = completed .before .before .before .before in
       let list2 = body .before .before .before .before in
       let list = list2 .before .before .before .before in
       let name-r = list .before .before .before .before .before .before in
-      complete .complete .kept .1 .0 ∙ body .body .kept .1 .1 .0 ∙ list2 .list2 .kept .1 .1 .0 ∙ list .list .kept .1 .1 .0 ∙
+      completed .completed .kept .0 ∙ body .body .kept .1 .1 .0 ∙ list2 .list2 .kept .1 .1 .0 ∙ list .list .kept .1 .1 .0 ∙
       kept-name-r name-r
 
   pub returns : Here lts.Need-returns
   unfolding I.gateDefinition P.paramListGateParams P.paramListGateQubits
   returns c =
-      let complete = c .before .before .before in
-      let body = complete .before .before .before .before in
+      let completed = c .before .before in
+      let body = completed .before .before .before .before in
       let list2 = body .before .before .before .before in
       let list = list2 .before .before .before .before in
       let if1 = list .before .before in
@@ -114,8 +114,7 @@ module _ (t : ℕ) where
       (then _ _ _ _ (list .list .ensures)
       (then _ _ _ _ (list2 .list2 .ensures)
       (then _ _ _ _ (body .body .ensures)
-      (step _ _ _ _ (complete .complete .ensures)
-      (ends _ _ _ (complete .complete .ensures .fit))))))))))
+      (any _ _ _ (completed .completed .ensures)))))))))
 
   pub list-requires-3 : Here lts.Need-list-requires-3
   list-requires-3 c κs = (omega (arith, entry-list-arg3 c .pre .0), c .before .before .before .before .before .name-r .ensures .fit)
@@ -126,22 +125,22 @@ module _ (t : ℕ) where
       let list-arg3 = list3 .before in
       (omega (arith, entry-list-arg3 list-arg3 .pre .0), list3 .list3 .ensures .fit)
 
-  pub complete-requires-2 : Here lts.Need-complete-requires-2
-  complete-requires-2 c κs = c .before .before .before .body2 .ensures .fit
+  pub completed-requires-2 : Here lts.Need-completed-requires-2
+  completed-requires-2 c κs = c .before .before .before .body2 .ensures .fit
 
   pub same-length-2 : Here lts.Need-same-length-2
   same-length-2 c =
-      let complete2 = c .before .before .before in
-      let body2 = complete2 .before .before .before .before in
+      let completed2 = c .before .before in
+      let body2 = completed2 .before .before .before .before in
       let list3 = body2 .before .before .before .before in
       let name-r = list3 .before .before .before .before .before .before in
-      complete2 .complete2 .kept .1 .0 ∙ body2 .body2 .kept .1 .1 .0 ∙ list3 .list3 .kept .1 .1 .0 ∙ kept-name-r name-r
+      completed2 .completed2 .kept .0 ∙ body2 .body2 .kept .1 .1 .0 ∙ list3 .list3 .kept .1 .1 .0 ∙ kept-name-r name-r
 
   pub returns-2 : Here lts.Need-returns-2
   unfolding I.gateDefinition P.paramListGateParams P.paramListGateQubits
   returns-2 c =
-      let complete2 = c .before .before .before in
-      let body2 = complete2 .before .before .before .before in
+      let completed2 = c .before .before in
+      let body2 = completed2 .before .before .before .before in
       let list3 = body2 .before .before .before .before in
       let if1 = list3 .before .before in
       let at = if1 .before in
@@ -154,5 +153,4 @@ module _ (t : ℕ) where
       (rw (if1 .if1 .left)
       (then _ _ _ _ (list3 .list3 .ensures)
       (then _ _ _ _ (body2 .body2 .ensures)
-      (step _ _ _ _ (complete2 .complete2 .ensures)
-      (ends _ _ _ (complete2 .complete2 .ensures .fit)))))))))
+      (any _ _ _ (completed2 .completed2 .ensures))))))))

@@ -1,8 +1,8 @@
 -- Written by tools/proofs from the code, the definitions and hints.py: docs/PRODUCTIONS.md says how to change it.
 -- `ifs`.
 use borrow.Author.Needs.{needs}
-use Rattle.runtime.proofs.Laws.{then, step, see, any, ends}
-use Rattle.grammar.proofs.Laws.{assoc, pick-bind, done-bind}
+use Rattle.runtime.proofs.Laws.{then, step, see, any}
+use Rattle.grammar.proofs.Laws.{assoc, pick-bind, done-bind, past}
 use native.Mathlib.Omega.{arith}
 use lib.ListN.{length}
 use mathlib.Core.Path.{_≡_, _∙_}
@@ -10,10 +10,10 @@ use Rattle.grammar.specs.Entry.{counted}
 use Prim.Native.Nat.{ℕ}
 use Rattle.cycle.proofs.Depth.{ifStmt-deeper}
 use Rattle.grammar.specs.Items as I
+use Rattle.grammar.proofs.completed.Reads as completed-reads
+use Rattle.grammar.proofs.expected.Reads as expected-reads
 use Rattle.runtime.proofs.parser.Parser.at.Reads as at-reads
 use Rattle.runtime.proofs.parser.Parser.bump.Reads as bump-reads
-use Rattle.runtime.proofs.parser.Parser.complete.Reads as complete-reads
-use Rattle.runtime.proofs.parser.Parser.expect.Reads as expect-reads
 use Rattle.runtime.proofs.parser.Parser.must.Reads as must-reads
 use Rattle.runtime.proofs.parser.Parser.start.Reads as start-reads
 use Rattle.runtime.proofs.parser.Parser.stop.Reads as stop-reads
@@ -35,8 +35,8 @@ calls t = (
   must-reads.Learnt,
   bump-reads.Asked,
   bump-reads.Learnt,
-  expect-reads.Asked,
-  expect-reads.Learnt,
+  expected-reads.Asked,
+  expected-reads.Learnt,
   expr-bp-below t,
   expr-bp.Post,
   body-below t,
@@ -47,8 +47,8 @@ calls t = (
   start-reads.Learnt,
   ifs-below t,
   ifs.Post,
-  complete-reads.Asked,
-  complete-reads.Learnt,
+  completed-reads.Asked,
+  completed-reads.Learnt,
 )
 
 module _ (t : ℕ) where
@@ -59,23 +59,23 @@ module _ (t : ℕ) where
   entry-bump c = c .before .before .before .before .before .before .before .before .before .before
 
   abbrev entry-expr-bp-arg : Here lts.After-expr-bp-arg → Here lts.Start
-  entry-expr-bp-arg c = entry-bump (c .before .before .before .before .before .before .before .before)
+  entry-expr-bp-arg c = entry-bump (c .before .before .before .before .before .before .before)
 
   abbrev entry-body-arg : Here lts.After-body-arg → Here lts.Start
-  entry-body-arg c = entry-expr-bp-arg (c .before .before .before .before .before .before .before .before .before .before)
+  entry-body-arg c = entry-expr-bp-arg (c .before .before .before .before .before .before .before .before .before)
 
   abbrev entry-body : Here lts.After-body → Here lts.Start
   entry-body c = entry-body-arg (c .before)
 
   kept-body : (c : Here lts.After-body) → length (c .body .last .1 .1 .0) ≡ length (entry-body c .args .room .now)
   kept-body c =
-      let expect2 = c .before .before .before .before .before in
-      let expr-bp = expect2 .before .before .before .before .before in
-      let expect = expr-bp .before .before .before .before .before in
-      let bump = expect .before .before .before .before in
+      let expected2 = c .before .before .before .before in
+      let expr-bp = expected2 .before .before .before .before .before in
+      let expected = expr-bp .before .before .before .before in
+      let bump = expected .before .before .before .before in
       let must = bump .before .before .before .before in
-      c .body .kept .1 .1 .0 ∙ expect2 .expect2 .kept .1 .1 .1 .0 ∙ expr-bp .expr-bp .kept .1 .1 .0 ∙ expect .expect .kept .1 .1 .1
-      .0 ∙ bump .bump .kept .1 .1 .1 .0 ∙ must .must .kept .1 .1 .1 .0
+      c .body .kept .1 .1 .0 ∙ expected2 .expected2 .kept .1 .1 .0 ∙ expr-bp .expr-bp .kept .1 .1 .0 ∙ expected .expected .kept .1
+      .1 .0 ∙ bump .bump .kept .1 .1 .1 .0 ∙ must .must .kept .1 .1 .1 .0
 
   abbrev entry-bump2 : Here lts.After-bump2 → Here lts.Start
   entry-bump2 c = entry-body (c .before .before .before .before .before .before)
@@ -109,24 +109,24 @@ module _ (t : ℕ) where
   pub bump-requires : Here lts.Need-bump-requires
   bump-requires c κs = c .before .before .before .must .ensures .fit
 
-  pub expect-requires : Here lts.Need-expect-requires
-  expect-requires c κs = c .before .before .before .bump .ensures .fit
+  pub expected-requires : Here lts.Need-expected-requires
+  expected-requires c κs = c .before .before .before .bump .ensures .fit
 
   pub expr-bp-requires : Here lts.Need-expr-bp-requires
   expr-bp-requires c κs =
-      let expect = c .before .before .before .before in
-      let if1 = expect .before .before .before .before .before .before .before .before .before .before in
-      (omega (arith, entry-expr-bp-arg c .pre .0, if1 .if1 .left), (expect .expect .ensures .fit, search needs))
+      let expected = c .before .before .before in
+      let if1 = expected .before .before .before .before .before .before .before .before .before .before in
+      (omega (arith, entry-expr-bp-arg c .pre .0, if1 .if1 .left), (expected .expected .ensures .fit, search needs))
 
-  pub expect-requires-2 : Here lts.Need-expect-requires-2
-  expect-requires-2 c κs = c .before .before .before .before .expr-bp .ensures .fit
+  pub expected-requires-2 : Here lts.Need-expected-requires-2
+  expected-requires-2 c κs = c .before .before .before .before .expr-bp .ensures .fit
 
   pub body-requires : Here lts.Need-body-requires
   body-requires c κs =
-      let expect2 = c .before .before .before .before in
-      let if1 = expect2 .before .before .before .before .before .before .before .before .before .before .before .before .before
-      .before .before .before .before .before .before .before in
-      (omega (arith, entry-body-arg c .pre .0, if1 .if1 .left), expect2 .expect2 .ensures .fit)
+      let expected2 = c .before .before .before in
+      let if1 = expected2 .before .before .before .before .before .before .before .before .before .before .before .before .before
+      .before .before .before .before .before .before in
+      (omega (arith, entry-body-arg c .pre .0, if1 .if1 .left), expected2 .expected2 .ensures .fit)
 
   pub at-requires : Here lts.Need-at-requires
   at-requires c κs = c .before .before .body .ensures .fit
@@ -146,25 +146,25 @@ module _ (t : ℕ) where
       let at2 = start .before .before .before in
       let if1 = at2 .before .before .before .before .before .before .before .before .before .before .before .before .before .before
       .before .before .before .before .before .before .before .before .before .before .before .before .before .before .before
-      .before .before .before .before .before in
+      .before .before .before in
       (omega (arith, entry-at2 at2 .pre .0, if1 .if1 .left), start .start .ensures .fit)
 
-  pub complete-requires : Here lts.Need-complete-requires
-  complete-requires c κs = c .before .before .before .ifs .ensures .fit
+  pub completed-requires : Here lts.Need-completed-requires
+  completed-requires c κs = c .before .before .before .ifs .ensures .fit
 
   pub same-length-2 : Here lts.Need-same-length-2
   same-length-2 c =
-      let complete = c .before .before .before in
-      let ifs = complete .before .before .before .before in
+      let completed = c .before .before in
+      let ifs = completed .before .before .before .before in
       let start = ifs .before .before .before .before .before in
       let bump2 = start .before .before .before .before .before .before in
-      complete .complete .kept .1 .0 ∙ ifs .ifs .kept .1 .1 .0 ∙ start .start .kept .1 .0 ∙ kept-bump2 bump2
+      completed .completed .kept .0 ∙ ifs .ifs .kept .1 .1 .0 ∙ start .start .kept .1 .0 ∙ kept-bump2 bump2
 
   pub returns-2 : Here lts.Need-returns-2
   unfolding I.ifStmt
   returns-2 c =
-      let complete = c .before .before .before in
-      let ifs = complete .before .before .before .before in
+      let completed = c .before .before in
+      let ifs = completed .before .before .before .before in
       let start = ifs .before .before .before .before .before in
       let if3 = start .before .before in
       let at2 = if3 .before in
@@ -172,19 +172,19 @@ module _ (t : ℕ) where
       let if2 = bump2 .before .before in
       let at = if2 .before in
       let body = at .before .before .before in
-      let expect2 = body .before .before .before .before .before in
-      let expr-bp = expect2 .before .before .before .before .before in
-      let expect = expr-bp .before .before .before .before .before in
-      let bump = expect .before .before .before .before in
+      let expected2 = body .before .before .before .before in
+      let expr-bp = expected2 .before .before .before .before .before in
+      let expected = expr-bp .before .before .before .before in
+      let bump = expected .before .before .before .before in
       let must = bump .before .before .before .before in
       let if1 = must .before .before in
       ifStmt-deeper _ _ _ _ _ (if1 .if1 .left)
       (simp (assoc, pick-bind, done-bind)
       (then _ _ _ _ (must .must .ensures)
       (then _ _ _ _ (bump .bump .ensures)
-      (then _ _ _ _ (expect .expect .ensures)
+      (past _ _ _ _ (expected .expected .ensures)
       (then _ _ _ _ (expr-bp .expr-bp .ensures)
-      (then _ _ _ _ (expect2 .expect2 .ensures)
+      (past _ _ _ _ (expected2 .expected2 .ensures)
       (then _ _ _ _ (body .body .ensures)
       (see _ _ _ _ (at .at .ensures)
       (rw (if2 .if2 .taken)
@@ -193,8 +193,7 @@ module _ (t : ℕ) where
       (rw (if3 .if3 .taken)
       (step _ _ _ _ (start .start .ensures)
       (then _ _ _ _ (ifs .ifs .ensures)
-      (step _ _ _ _ (complete .complete .ensures)
-      (ends _ _ _ (complete .complete .ensures .fit)))))))))))))))))
+      (any _ _ _ (completed .completed .ensures))))))))))))))))
 
   pub body-requires-2 : Here lts.Need-body-requires-2
   body-requires-2 c κs =
@@ -202,43 +201,43 @@ module _ (t : ℕ) where
       let bump2 = at2 .before .before .before in
       let if1 = bump2 .before .before .before .before .before .before .before .before .before .before .before .before .before
       .before .before .before .before .before .before .before .before .before .before .before .before .before .before .before
-      .before .before .before in
+      .before in
       (omega (arith, entry-at2 at2 .pre .0, if1 .if1 .left), bump2 .bump2 .ensures .fit)
 
-  pub complete-requires-2 : Here lts.Need-complete-requires-2
-  complete-requires-2 c κs = c .before .before .before .body2 .ensures .fit
+  pub completed-requires-2 : Here lts.Need-completed-requires-2
+  completed-requires-2 c κs = c .before .before .before .body2 .ensures .fit
 
   pub same-length-3 : Here lts.Need-same-length-3
   same-length-3 c =
-      let complete2 = c .before .before .before in
-      let body2 = complete2 .before .before .before .before in
+      let completed2 = c .before .before in
+      let body2 = completed2 .before .before .before .before in
       let bump2 = body2 .before .before .before .before .before .before in
-      complete2 .complete2 .kept .1 .0 ∙ body2 .body2 .kept .1 .1 .0 ∙ kept-bump2 bump2
+      completed2 .completed2 .kept .0 ∙ body2 .body2 .kept .1 .1 .0 ∙ kept-bump2 bump2
 
   pub returns-3 : Here lts.Need-returns-3
   unfolding I.ifStmt
   returns-3 c =
-      let complete2 = c .before .before .before in
-      let body2 = complete2 .before .before .before .before in
+      let completed2 = c .before .before in
+      let body2 = completed2 .before .before .before .before in
       let if3 = body2 .before .before in
       let at2 = if3 .before in
       let bump2 = at2 .before .before .before in
       let if2 = bump2 .before .before in
       let at = if2 .before in
       let body = at .before .before .before in
-      let expect2 = body .before .before .before .before .before in
-      let expr-bp = expect2 .before .before .before .before .before in
-      let expect = expr-bp .before .before .before .before .before in
-      let bump = expect .before .before .before .before in
+      let expected2 = body .before .before .before .before in
+      let expr-bp = expected2 .before .before .before .before .before in
+      let expected = expr-bp .before .before .before .before in
+      let bump = expected .before .before .before .before in
       let must = bump .before .before .before .before in
       let if1 = must .before .before in
       ifStmt-deeper _ _ _ _ _ (if1 .if1 .left)
       (simp (assoc, pick-bind, done-bind)
       (then _ _ _ _ (must .must .ensures)
       (then _ _ _ _ (bump .bump .ensures)
-      (then _ _ _ _ (expect .expect .ensures)
+      (past _ _ _ _ (expected .expected .ensures)
       (then _ _ _ _ (expr-bp .expr-bp .ensures)
-      (then _ _ _ _ (expect2 .expect2 .ensures)
+      (past _ _ _ _ (expected2 .expected2 .ensures)
       (then _ _ _ _ (body .body .ensures)
       (see _ _ _ _ (at .at .ensures)
       (rw (if2 .if2 .taken)
@@ -246,40 +245,38 @@ module _ (t : ℕ) where
       (see _ _ _ _ (at2 .at2 .ensures)
       (rw (if3 .if3 .left)
       (then _ _ _ _ (body2 .body2 .ensures)
-      (step _ _ _ _ (complete2 .complete2 .ensures)
-      (ends _ _ _ (complete2 .complete2 .ensures .fit))))))))))))))))
+      (any _ _ _ (completed2 .completed2 .ensures)))))))))))))))
 
-  pub complete-requires-3 : Here lts.Need-complete-requires-3
-  complete-requires-3 c κs = c .before .before .before .before .before .body .ensures .fit
+  pub completed-requires-3 : Here lts.Need-completed-requires-3
+  completed-requires-3 c κs = c .before .before .before .before .before .body .ensures .fit
 
   pub same-length-4 : Here lts.Need-same-length-4
   same-length-4 c =
-      let complete3 = c .before .before .before in
-      let body = complete3 .before .before .before .before .before .before in
-      complete3 .complete3 .kept .1 .0 ∙ kept-body body
+      let completed3 = c .before .before in
+      let body = completed3 .before .before .before .before .before .before in
+      completed3 .completed3 .kept .0 ∙ kept-body body
 
   pub returns-4 : Here lts.Need-returns-4
   unfolding I.ifStmt
   returns-4 c =
-      let complete3 = c .before .before .before in
-      let if2 = complete3 .before .before in
+      let completed3 = c .before .before in
+      let if2 = completed3 .before .before in
       let at = if2 .before in
       let body = at .before .before .before in
-      let expect2 = body .before .before .before .before .before in
-      let expr-bp = expect2 .before .before .before .before .before in
-      let expect = expr-bp .before .before .before .before .before in
-      let bump = expect .before .before .before .before in
+      let expected2 = body .before .before .before .before in
+      let expr-bp = expected2 .before .before .before .before .before in
+      let expected = expr-bp .before .before .before .before in
+      let bump = expected .before .before .before .before in
       let must = bump .before .before .before .before in
       let if1 = must .before .before in
       ifStmt-deeper _ _ _ _ _ (if1 .if1 .left)
       (simp (assoc, pick-bind, done-bind)
       (then _ _ _ _ (must .must .ensures)
       (then _ _ _ _ (bump .bump .ensures)
-      (then _ _ _ _ (expect .expect .ensures)
+      (past _ _ _ _ (expected .expected .ensures)
       (then _ _ _ _ (expr-bp .expr-bp .ensures)
-      (then _ _ _ _ (expect2 .expect2 .ensures)
+      (past _ _ _ _ (expected2 .expected2 .ensures)
       (then _ _ _ _ (body .body .ensures)
       (see _ _ _ _ (at .at .ensures)
       (rw (if2 .if2 .left)
-      (step _ _ _ _ (complete3 .complete3 .ensures)
-      (ends _ _ _ (complete3 .complete3 .ensures .fit))))))))))))
+      (any _ _ _ (completed3 .completed3 .ensures)))))))))))

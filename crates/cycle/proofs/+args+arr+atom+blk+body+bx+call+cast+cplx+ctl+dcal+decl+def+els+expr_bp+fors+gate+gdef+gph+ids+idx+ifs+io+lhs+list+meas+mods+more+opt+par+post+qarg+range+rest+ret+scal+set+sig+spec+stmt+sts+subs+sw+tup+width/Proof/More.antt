@@ -2,13 +2,15 @@
 -- `more`.
 use borrow.Author.Needs.{needs}
 use Rattle.runtime.proofs.Laws.{then, step, peek, see, ends}
-use Rattle.grammar.proofs.Laws.{assoc, pick-bind, done-bind}
+use Rattle.grammar.proofs.Laws.{assoc, pick-bind, done-bind, past, passed}
 use borrow.Author.Tests.{ne-eqb}
 use native.Mathlib.Omega.{arith}
 use mathlib.Core.Path.{sym, _∙_}
 use Prim.Native.Nat.{ℕ}
 use Rattle.grammar.specs.Params as P
 use Rattle.grammar.specs.Items as I
+use Rattle.grammar.proofs.completed.Reads as completed-reads
+use Rattle.grammar.proofs.expected.Reads as expected-reads
 use Rattle.grammar.proofs.items.include.Reads as include-reads
 use Rattle.grammar.proofs.items.version_string.Reads as version-string-reads
 use Rattle.grammar.proofs.name_r.Reads as name-r-reads
@@ -17,10 +19,8 @@ use Rattle.runtime.proofs.parser.Parser.abandon.Reads as abandon-reads
 use Rattle.runtime.proofs.parser.Parser.at.Reads as at-reads
 use Rattle.runtime.proofs.parser.Parser.bump.Reads as bump-reads
 use Rattle.runtime.proofs.parser.Parser.bump_any.Reads as bump-any-reads
-use Rattle.runtime.proofs.parser.Parser.complete.Reads as complete-reads
 use Rattle.runtime.proofs.parser.Parser.current.Reads as current-reads
 use Rattle.runtime.proofs.parser.Parser.error.Reads as error-reads
-use Rattle.runtime.proofs.parser.Parser.expect.Reads as expect-reads
 use Rattle.runtime.proofs.parser.Parser.must.Reads as must-reads
 use Rattle.runtime.proofs.parser.Parser.start.Reads as start-reads
 use Rattle.cycle.proofs.expr_bp.Reads as expr-bp
@@ -49,10 +49,10 @@ calls t = (
   start-reads.Learnt,
   qarg-below t,
   qarg.Post,
-  expect-reads.Asked,
-  expect-reads.Learnt,
-  complete-reads.Asked,
-  complete-reads.Learnt,
+  expected-reads.Asked,
+  expected-reads.Learnt,
+  completed-reads.Asked,
+  completed-reads.Learnt,
   error-reads.Asked,
   error-reads.Learnt,
   abandon-reads.Asked,
@@ -104,28 +104,28 @@ module _ (t : ℕ) where
       .before in
       (omega (arith, entry .pre .0), start .start .ensures .fit)
 
-  pub expect-requires : Here lts.Need-expect-requires
-  expect-requires c κs = c .before .before .before .before .qarg .ensures .fit
+  pub expected-requires : Here lts.Need-expected-requires
+  expected-requires c κs = c .before .before .before .before .qarg .ensures .fit
 
-  pub complete-requires : Here lts.Need-complete-requires
-  complete-requires c κs = c .before .before .before .before .expect .ensures .fit
+  pub completed-requires : Here lts.Need-completed-requires
+  completed-requires c κs = c .before .before .before .expected .ensures .fit
 
   pub same-length : Here lts.Need-same-length
   same-length c =
-      let complete = c .before .before .before in
-      let expect = complete .before .before .before .before .before in
-      let qarg = expect .before .before .before .before .before in
+      let completed = c .before .before in
+      let expected = completed .before .before .before .before in
+      let qarg = expected .before .before .before .before .before in
       let start = qarg .before .before .before .before .before in
       let bump = start .before .before .before .before .before .before .before .before in
-      complete .complete .kept .1 .0 ∙ expect .expect .kept .1 .1 .1 .0 ∙ qarg .qarg .kept .1 .1 .0 ∙ start .start .kept .1 .0 ∙
+      completed .completed .kept .0 ∙ expected .expected .kept .1 .1 .0 ∙ qarg .qarg .kept .1 .1 .0 ∙ start .start .kept .1 .0 ∙
       bump .bump .kept .1 .1 .1 .0
 
   pub returns : Here lts.Need-returns
   unfolding I.resetStmt I.barrier I.aliasStmt I.delayStmt P.argListGateCallQubits
   returns c =
-      let complete = c .before .before .before in
-      let expect = complete .before .before .before .before .before in
-      let qarg = expect .before .before .before .before .before in
+      let completed = c .before .before in
+      let expected = completed .before .before .before .before in
+      let qarg = expected .before .before .before .before .before in
       let start = qarg .before .before .before .before .before in
       let if1 = start .before .before in
       let has = if1 .before in
@@ -139,9 +139,9 @@ module _ (t : ℕ) where
       (rw (sym (has .has .ensures) ∙ if1 .if1 .taken)
       (step _ _ _ _ (start .start .ensures)
       (then _ _ _ _ (qarg .qarg .ensures)
-      (then _ _ _ _ (expect .expect .ensures)
-      (step _ _ _ _ (complete .complete .ensures)
-      (ends _ _ _ (complete .complete .ensures .fit))))))))))
+      (past _ _ _ _ (expected .expected .ensures)
+      (passed _ _ _ _ (completed .completed .ensures)
+      (ends _ _ _ (completed .completed .ensures .fit))))))))))
 
   pub error-requires : Here lts.Need-error-requires
   error-requires c κs = c .before .before .before .before .current .ensures .fit
@@ -181,25 +181,25 @@ module _ (t : ℕ) where
   pub at-requires : Here lts.Need-at-requires
   at-requires c κs = c .before .before .bump2 .ensures .fit
 
-  pub expect-requires-2 : Here lts.Need-expect-requires-2
-  expect-requires-2 c κs = c .before .before .before .before .before .bump2 .ensures .fit
+  pub expected-requires-2 : Here lts.Need-expected-requires-2
+  expected-requires-2 c κs = c .before .before .before .before .before .bump2 .ensures .fit
 
-  pub complete-requires-2 : Here lts.Need-complete-requires-2
-  complete-requires-2 c κs = c .before .before .before .before .expect2 .ensures .fit
+  pub completed-requires-2 : Here lts.Need-completed-requires-2
+  completed-requires-2 c κs = c .before .before .before .expected2 .ensures .fit
 
   pub same-length-3 : Here lts.Need-same-length-3
   same-length-3 c =
-      let complete2 = c .before .before .before in
-      let expect2 = complete2 .before .before .before .before .before in
-      let bump2 = expect2 .before .before .before .before .before .before in
-      complete2 .complete2 .kept .1 .0 ∙ expect2 .expect2 .kept .1 .1 .1 .0 ∙ bump2 .bump2 .kept .1 .1 .1 .0
+      let completed2 = c .before .before in
+      let expected2 = completed2 .before .before .before .before in
+      let bump2 = expected2 .before .before .before .before .before .before in
+      completed2 .completed2 .kept .0 ∙ expected2 .expected2 .kept .1 .1 .0 ∙ bump2 .bump2 .kept .1 .1 .1 .0
 
   pub returns-3 : Here lts.Need-returns-3
   unfolding I.resetStmt I.barrier I.aliasStmt I.delayStmt P.argListGateCallQubits
   returns-3 c =
-      let complete2 = c .before .before .before in
-      let expect2 = complete2 .before .before .before .before .before in
-      let if2 = expect2 .before .before in
+      let completed2 = c .before .before in
+      let expected2 = completed2 .before .before .before .before in
+      let if2 = expected2 .before .before in
       let at = if2 .before in
       let bump2 = at .before .before .before in
       let match = bump2 .before .before in
@@ -208,9 +208,9 @@ module _ (t : ℕ) where
       (then _ _ _ _ (bump2 .bump2 .ensures)
       (see _ _ _ _ (at .at .ensures)
       (rw (if2 .if2 .taken)
-      (then _ _ _ _ (expect2 .expect2 .ensures)
-      (step _ _ _ _ (complete2 .complete2 .ensures)
-      (ends _ _ _ (complete2 .complete2 .ensures .fit))))))))
+      (past _ _ _ _ (expected2 .expected2 .ensures)
+      (passed _ _ _ _ (completed2 .completed2 .ensures)
+      (ends _ _ _ (completed2 .completed2 .ensures .fit))))))))
 
   pub list-requires : Here lts.Need-list-requires
   list-requires c κs =
@@ -218,27 +218,27 @@ module _ (t : ℕ) where
       let entry = bump2 .before .before .before .before .before .before in
       (omega (arith, entry .pre .0), bump2 .bump2 .ensures .fit)
 
-  pub expect-requires-3 : Here lts.Need-expect-requires-3
-  expect-requires-3 c κs = c .before .before .before .list .ensures .fit
+  pub expected-requires-3 : Here lts.Need-expected-requires-3
+  expected-requires-3 c κs = c .before .before .before .list .ensures .fit
 
-  pub complete-requires-3 : Here lts.Need-complete-requires-3
-  complete-requires-3 c κs = c .before .before .before .before .expect3 .ensures .fit
+  pub completed-requires-3 : Here lts.Need-completed-requires-3
+  completed-requires-3 c κs = c .before .before .before .expected3 .ensures .fit
 
   pub same-length-4 : Here lts.Need-same-length-4
   same-length-4 c =
-      let complete3 = c .before .before .before in
-      let expect3 = complete3 .before .before .before .before .before in
-      let list = expect3 .before .before .before .before in
+      let completed3 = c .before .before in
+      let expected3 = completed3 .before .before .before .before in
+      let list = expected3 .before .before .before .before in
       let bump2 = list .before .before .before .before .before .before in
-      complete3 .complete3 .kept .1 .0 ∙ expect3 .expect3 .kept .1 .1 .1 .0 ∙ list .list .kept .1 .1 .0 ∙ bump2 .bump2 .kept .1 .1
+      completed3 .completed3 .kept .0 ∙ expected3 .expected3 .kept .1 .1 .0 ∙ list .list .kept .1 .1 .0 ∙ bump2 .bump2 .kept .1 .1
       .1 .0
 
   pub returns-4 : Here lts.Need-returns-4
   unfolding I.resetStmt I.barrier I.aliasStmt I.delayStmt P.argListGateCallQubits
   returns-4 c =
-      let complete3 = c .before .before .before in
-      let expect3 = complete3 .before .before .before .before .before in
-      let list = expect3 .before .before .before .before in
+      let completed3 = c .before .before in
+      let expected3 = completed3 .before .before .before .before in
+      let list = expected3 .before .before .before .before in
       let if2 = list .before .before in
       let at = if2 .before in
       let bump2 = at .before .before .before in
@@ -249,9 +249,9 @@ module _ (t : ℕ) where
       (see _ _ _ _ (at .at .ensures)
       (rw (if2 .if2 .left)
       (then _ _ _ _ (list .list .ensures)
-      (then _ _ _ _ (expect3 .expect3 .ensures)
-      (step _ _ _ _ (complete3 .complete3 .ensures)
-      (ends _ _ _ (complete3 .complete3 .ensures .fit)))))))))
+      (past _ _ _ _ (expected3 .expected3 .ensures)
+      (passed _ _ _ _ (completed3 .completed3 .ensures)
+      (ends _ _ _ (completed3 .completed3 .ensures .fit)))))))))
 
   pub version-string-requires : Here lts.Need-version-string-requires
   version-string-requires c κs = c .before .before .before .before .before .pre .1
@@ -311,42 +311,43 @@ module _ (t : ℕ) where
   pub name-r-requires : Here lts.Need-name-r-requires
   name-r-requires c κs = c .before .before .before .bump-any .ensures .fit
 
-  pub expect-requires-4 : Here lts.Need-expect-requires-4
-  expect-requires-4 c κs = c .before .before .before .name-r .ensures .fit
+  pub expected-requires-4 : Here lts.Need-expected-requires-4
+  expected-requires-4 c κs = c .before .before .before .name-r .ensures .fit
 
   pub expr-bp-requires : Here lts.Need-expr-bp-requires
   expr-bp-requires c κs =
-      let expect4 = c .before .before .before .before in
-      let entry = expect4 .before .before .before .before .before .before .before .before .before .before .before .before .before
+      let expected4 = c .before .before .before in
+      let entry = expected4 .before .before .before .before .before .before .before .before .before .before .before .before .before
       .before .before .before .before .before in
-      (omega (arith, entry .pre .0), (expect4 .expect4 .ensures .fit, search needs))
+      (omega (arith, entry .pre .0), (expected4 .expected4 .ensures .fit, search needs))
 
-  pub expect-requires-5 : Here lts.Need-expect-requires-5
-  expect-requires-5 c κs = c .before .before .before .before .expr-bp .ensures .fit
+  pub expected-requires-5 : Here lts.Need-expected-requires-5
+  expected-requires-5 c κs = c .before .before .before .before .expr-bp .ensures .fit
 
-  pub complete-requires-4 : Here lts.Need-complete-requires-4
-  complete-requires-4 c κs = c .before .before .before .before .expect5 .ensures .fit
+  pub completed-requires-4 : Here lts.Need-completed-requires-4
+  completed-requires-4 c κs = c .before .before .before .expected5 .ensures .fit
 
   pub same-length-8 : Here lts.Need-same-length-8
   same-length-8 c =
-      let complete4 = c .before .before .before in
-      let expect5 = complete4 .before .before .before .before .before in
-      let expr-bp = expect5 .before .before .before .before .before in
-      let expect4 = expr-bp .before .before .before .before .before in
-      let name-r = expect4 .before .before .before .before in
+      let completed4 = c .before .before in
+      let expected5 = completed4 .before .before .before .before in
+      let expr-bp = expected5 .before .before .before .before .before in
+      let expected4 = expr-bp .before .before .before .before in
+      let name-r = expected4 .before .before .before .before in
       let bump-any = name-r .before .before .before .before in
       let must = bump-any .before .before .before .before in
-      complete4 .complete4 .kept .1 .0 ∙ expect5 .expect5 .kept .1 .1 .1 .0 ∙ expr-bp .expr-bp .kept .1 .1 .0 ∙ expect4 .expect4
-      .kept .1 .1 .1 .0 ∙ name-r .name-r .kept .1 .1 .0 ∙ bump-any .bump-any .kept .1 .1 .1 .0 ∙ must .must .kept .1 .1 .1 .0
+      completed4 .completed4 .kept .0 ∙ expected5 .expected5 .kept .1 .1 .0 ∙ expr-bp .expr-bp .kept .1 .1 .0 ∙ expected4
+      .expected4 .kept .1 .1 .0 ∙ name-r .name-r .kept .1 .1 .0 ∙ bump-any .bump-any .kept .1 .1 .1 .0 ∙ must .must .kept .1 .1
+      .1 .0
 
   pub returns-8 : Here lts.Need-returns-8
   unfolding I.resetStmt I.barrier I.aliasStmt I.delayStmt P.argListGateCallQubits
   returns-8 c =
-      let complete4 = c .before .before .before in
-      let expect5 = complete4 .before .before .before .before .before in
-      let expr-bp = expect5 .before .before .before .before .before in
-      let expect4 = expr-bp .before .before .before .before .before in
-      let name-r = expect4 .before .before .before .before in
+      let completed4 = c .before .before in
+      let expected5 = completed4 .before .before .before .before in
+      let expr-bp = expected5 .before .before .before .before .before in
+      let expected4 = expr-bp .before .before .before .before in
+      let name-r = expected4 .before .before .before .before in
       let bump-any = name-r .before .before .before .before in
       let must = bump-any .before .before .before .before in
       let match = must .before .before in
@@ -355,11 +356,11 @@ module _ (t : ℕ) where
       (then _ _ _ _ (must .must .ensures)
       (then _ _ _ _ (bump-any .bump-any .ensures)
       (then _ _ _ _ (name-r .name-r .ensures)
-      (then _ _ _ _ (expect4 .expect4 .ensures)
+      (past _ _ _ _ (expected4 .expected4 .ensures)
       (then _ _ _ _ (expr-bp .expr-bp .ensures)
-      (then _ _ _ _ (expect5 .expect5 .ensures)
-      (step _ _ _ _ (complete4 .complete4 .ensures)
-      (ends _ _ _ (complete4 .complete4 .ensures .fit))))))))))
+      (past _ _ _ _ (expected5 .expected5 .ensures)
+      (passed _ _ _ _ (completed4 .completed4 .ensures)
+      (ends _ _ _ (completed4 .completed4 .ensures .fit))))))))))
 
   pub bump-requires-3 : Here lts.Need-bump-requires-3
   bump-requires-3 c κs = c .before .before .before .before .before .pre .1
@@ -376,28 +377,28 @@ module _ (t : ℕ) where
       let entry = width .before .before .before .before .before .before .before .before .before .before in
       (omega (arith, entry .pre .0), width .width .ensures .fit)
 
-  pub expect-requires-6 : Here lts.Need-expect-requires-6
-  expect-requires-6 c κs = c .before .before .before .list2 .ensures .fit
+  pub expected-requires-6 : Here lts.Need-expected-requires-6
+  expected-requires-6 c κs = c .before .before .before .list2 .ensures .fit
 
-  pub complete-requires-5 : Here lts.Need-complete-requires-5
-  complete-requires-5 c κs = c .before .before .before .before .expect6 .ensures .fit
+  pub completed-requires-5 : Here lts.Need-completed-requires-5
+  completed-requires-5 c κs = c .before .before .before .expected6 .ensures .fit
 
   pub same-length-9 : Here lts.Need-same-length-9
   same-length-9 c =
-      let complete5 = c .before .before .before in
-      let expect6 = complete5 .before .before .before .before .before in
-      let list2 = expect6 .before .before .before .before in
+      let completed5 = c .before .before in
+      let expected6 = completed5 .before .before .before .before in
+      let list2 = expected6 .before .before .before .before in
       let width = list2 .before .before .before .before in
       let bump3 = width .before .before .before .before in
-      complete5 .complete5 .kept .1 .0 ∙ expect6 .expect6 .kept .1 .1 .1 .0 ∙ list2 .list2 .kept .1 .1 .0 ∙ width .width .kept .1
+      completed5 .completed5 .kept .0 ∙ expected6 .expected6 .kept .1 .1 .0 ∙ list2 .list2 .kept .1 .1 .0 ∙ width .width .kept .1
       .1 .0 ∙ bump3 .bump3 .kept .1 .1 .1 .0
 
   pub returns-9 : Here lts.Need-returns-9
   unfolding I.resetStmt I.barrier I.aliasStmt I.delayStmt P.argListGateCallQubits
   returns-9 c =
-      let complete5 = c .before .before .before in
-      let expect6 = complete5 .before .before .before .before .before in
-      let list2 = expect6 .before .before .before .before in
+      let completed5 = c .before .before in
+      let expected6 = completed5 .before .before .before .before in
+      let list2 = expected6 .before .before .before .before in
       let width = list2 .before .before .before .before in
       let bump3 = width .before .before .before .before in
       let match = bump3 .before .before in
@@ -406,9 +407,9 @@ module _ (t : ℕ) where
       (then _ _ _ _ (bump3 .bump3 .ensures)
       (then _ _ _ _ (width .width .ensures)
       (then _ _ _ _ (list2 .list2 .ensures)
-      (then _ _ _ _ (expect6 .expect6 .ensures)
-      (step _ _ _ _ (complete5 .complete5 .ensures)
-      (ends _ _ _ (complete5 .complete5 .ensures .fit))))))))
+      (past _ _ _ _ (expected6 .expected6 .ensures)
+      (passed _ _ _ _ (completed5 .completed5 .ensures)
+      (ends _ _ _ (completed5 .completed5 .ensures .fit))))))))
 
   pub io-requires : Here lts.Need-io-requires
   io-requires c κs = (

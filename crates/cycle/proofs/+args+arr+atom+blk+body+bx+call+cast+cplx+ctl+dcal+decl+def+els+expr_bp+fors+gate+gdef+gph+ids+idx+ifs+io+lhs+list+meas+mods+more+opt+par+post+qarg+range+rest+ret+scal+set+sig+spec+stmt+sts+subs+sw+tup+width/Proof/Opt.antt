@@ -2,7 +2,7 @@
 -- `opt`.
 use borrow.Author.Needs.{needs}
 use Rattle.runtime.proofs.Laws.{then, step, peek, see, ends}
-use Rattle.grammar.proofs.Laws.{assoc, pick-bind, done-bind}
+use Rattle.grammar.proofs.Laws.{assoc, pick-bind, done-bind, past, passed}
 use borrow.Author.Tests.{ne-eqb}
 use native.Mathlib.Omega.{arith}
 use lib.ListN.{length}
@@ -10,6 +10,8 @@ use mathlib.Core.Path.{_≡_, sym, _∙_}
 use Prim.Native.Nat.{ℕ}
 use Rattle.grammar.specs.Expressions as E
 use Rattle.grammar.specs.Items as I
+use Rattle.grammar.proofs.completed.Reads as completed-reads
+use Rattle.grammar.proofs.expected.Reads as expected-reads
 use Rattle.grammar.proofs.expressions.type_name.Reads as type-name-reads
 use Rattle.grammar.proofs.fail_if_at.Reads as fail-if-at-reads
 use Rattle.grammar.proofs.items.break_.Reads as break--reads
@@ -20,9 +22,7 @@ use Rattle.grammar.proofs.items.end_.Reads as end--reads
 use Rattle.grammar.proofs.items.qubit_end.Reads as qubit-end-reads
 use Rattle.runtime.proofs.parser.Parser.at.Reads as at-reads
 use Rattle.runtime.proofs.parser.Parser.bump.Reads as bump-reads
-use Rattle.runtime.proofs.parser.Parser.complete.Reads as complete-reads
 use Rattle.runtime.proofs.parser.Parser.current.Reads as current-reads
-use Rattle.runtime.proofs.parser.Parser.expect.Reads as expect-reads
 use Rattle.runtime.proofs.parser.Parser.must.Reads as must-reads
 use Rattle.runtime.proofs.parser.Parser.nth.Reads as nth-reads
 use Rattle.runtime.proofs.parser.Parser.start.Reads as start-reads
@@ -66,8 +66,8 @@ calls t = (
   width.Post,
   fail-if-at-reads.Asked,
   fail-if-at-reads.Learnt,
-  complete-reads.Asked,
-  complete-reads.Learnt,
+  completed-reads.Asked,
+  completed-reads.Learnt,
   qubit-end-reads.Asked,
   qubit-end-reads.Learnt,
   gdef-below t,
@@ -82,8 +82,8 @@ calls t = (
   ifs.Post,
   bump-reads.Asked,
   bump-reads.Learnt,
-  expect-reads.Asked,
-  expect-reads.Learnt,
+  expected-reads.Asked,
+  expected-reads.Learnt,
   expr-bp-below t,
   expr-bp.Post,
   body-below t,
@@ -117,7 +117,7 @@ module _ (t : ℕ) where
   entry-must2 c = entry-p3 (c .before .before .before .before .before .before .before)
 
   abbrev entry-expr-bp-arg : Here lts.After-expr-bp-arg → Here lts.Start
-  entry-expr-bp-arg c = entry-bump (c .before .before .before .before .before .before .before .before)
+  entry-expr-bp-arg c = entry-bump (c .before .before .before .before .before .before .before)
 
   abbrev entry-type-name : Here lts.After-type-name → Here lts.Start
   entry-type-name c = entry-must2 (c .before .before .before .before .before .before .before .before .before)
@@ -190,28 +190,28 @@ module _ (t : ℕ) where
   pub fail-if-at-requires : Here lts.Need-fail-if-at-requires
   fail-if-at-requires c κs = c .before .before .before .width .ensures .fit
 
-  pub complete-requires : Here lts.Need-complete-requires
-  complete-requires c κs = c .before .before .before .fail-if-at .ensures .fit
+  pub completed-requires : Here lts.Need-completed-requires
+  completed-requires c κs = c .before .before .before .fail-if-at .ensures .fit
 
   pub qubit-end-requires : Here lts.Need-qubit-end-requires
-  qubit-end-requires c κs = c .before .before .before .before .complete .ensures .fit
+  qubit-end-requires c κs = c .before .before .before .completed .ensures .fit
 
   pub same-length-2 : Here lts.Need-same-length-2
   same-length-2 c =
       let qubit-end = c .before .before in
-      let complete = qubit-end .before .before .before .before .before in
-      let fail-if-at = complete .before .before .before .before in
+      let completed = qubit-end .before .before .before .before in
+      let fail-if-at = completed .before .before .before .before in
       let width = fail-if-at .before .before .before .before in
       let type-name = width .before .before .before .before .before .before in
-      qubit-end .qubit-end .kept .1 .1 .0 ∙ complete .complete .kept .1 .0 ∙ fail-if-at .fail-if-at .kept .1 .1 .0 ∙ width .width
+      qubit-end .qubit-end .kept .1 .1 .0 ∙ completed .completed .kept .0 ∙ fail-if-at .fail-if-at .kept .1 .1 .0 ∙ width .width
       .kept .1 .1 .0 ∙ kept-type-name type-name
 
   pub returns-2 : Here lts.Need-returns-2
   unfolding I.optItem I.qubitDeclarationStmt E.qubitTypeSpec I.whileStmt I.cal
   returns-2 c =
       let qubit-end = c .before .before in
-      let complete = qubit-end .before .before .before .before .before in
-      let fail-if-at = complete .before .before .before .before in
+      let completed = qubit-end .before .before .before .before in
+      let fail-if-at = completed .before .before .before .before in
       let width = fail-if-at .before .before .before .before in
       let if2 = width .before .before in
       let at = if2 .before in
@@ -239,29 +239,29 @@ module _ (t : ℕ) where
       (rw (if2 .if2 .taken)
       (then _ _ _ _ (width .width .ensures)
       (then _ _ _ _ (fail-if-at .fail-if-at .ensures)
-      (step _ _ _ _ (complete .complete .ensures)
+      (passed _ _ _ _ (completed .completed .ensures)
       (then _ _ _ _ (qubit-end .qubit-end .ensures)
       (ends _ _ _ (qubit-end .qubit-end .ensures .fit)))))))))))))))))
 
-  pub complete-requires-2 : Here lts.Need-complete-requires-2
-  complete-requires-2 c κs = c .before .before .before .before .before .type-name .ensures .fit
+  pub completed-requires-2 : Here lts.Need-completed-requires-2
+  completed-requires-2 c κs = c .before .before .before .before .before .type-name .ensures .fit
 
   pub qubit-end-requires-2 : Here lts.Need-qubit-end-requires-2
-  qubit-end-requires-2 c κs = c .before .before .before .before .complete2 .ensures .fit
+  qubit-end-requires-2 c κs = c .before .before .before .completed2 .ensures .fit
 
   pub same-length-3 : Here lts.Need-same-length-3
   same-length-3 c =
       let qubit-end2 = c .before .before in
-      let complete2 = qubit-end2 .before .before .before .before .before in
-      let type-name = complete2 .before .before .before .before .before .before in
-      qubit-end2 .qubit-end2 .kept .1 .1 .0 ∙ complete2 .complete2 .kept .1 .0 ∙ kept-type-name type-name
+      let completed2 = qubit-end2 .before .before .before .before in
+      let type-name = completed2 .before .before .before .before .before .before in
+      qubit-end2 .qubit-end2 .kept .1 .1 .0 ∙ completed2 .completed2 .kept .0 ∙ kept-type-name type-name
 
   pub returns-3 : Here lts.Need-returns-3
   unfolding I.optItem I.qubitDeclarationStmt E.qubitTypeSpec I.whileStmt I.cal
   returns-3 c =
       let qubit-end2 = c .before .before in
-      let complete2 = qubit-end2 .before .before .before .before .before in
-      let if2 = complete2 .before .before in
+      let completed2 = qubit-end2 .before .before .before .before in
+      let if2 = completed2 .before .before in
       let at = if2 .before in
       let type-name = at .before .before .before in
       let start = type-name .before .before .before .before .before in
@@ -285,7 +285,7 @@ module _ (t : ℕ) where
       (then _ _ _ _ (type-name .type-name .ensures)
       (see _ _ _ _ (at .at .ensures)
       (rw (if2 .if2 .left)
-      (step _ _ _ _ (complete2 .complete2 .ensures)
+      (passed _ _ _ _ (completed2 .completed2 .ensures)
       (then _ _ _ _ (qubit-end2 .qubit-end2 .ensures)
       (ends _ _ _ (qubit-end2 .qubit-end2 .ensures .fit)))))))))))))))
 
@@ -448,51 +448,52 @@ module _ (t : ℕ) where
   pub bump-requires : Here lts.Need-bump-requires
   bump-requires c κs = c .before .before .before .must3 .ensures .fit
 
-  pub expect-requires : Here lts.Need-expect-requires
-  expect-requires c κs = c .before .before .before .bump .ensures .fit
+  pub expected-requires : Here lts.Need-expected-requires
+  expected-requires c κs = c .before .before .before .bump .ensures .fit
 
   pub expr-bp-requires : Here lts.Need-expr-bp-requires
   expr-bp-requires c κs = (
     omega (arith, entry-expr-bp-arg c .pre .0),
     (
-      c .before .before .before .before .expect .ensures .fit,
-      search needs,
+      c .before .before .before .expected .ensures .fit,
+      search
+          needs,
     ),
   )
 
-  pub expect-requires-2 : Here lts.Need-expect-requires-2
-  expect-requires-2 c κs = c .before .before .before .before .expr-bp .ensures .fit
+  pub expected-requires-2 : Here lts.Need-expected-requires-2
+  expected-requires-2 c κs = c .before .before .before .before .expr-bp .ensures .fit
 
   pub body-requires : Here lts.Need-body-requires
   body-requires c κs =
-      let expect2 = c .before .before .before .before in
-      let expr-bp-arg = expect2 .before .before .before .before .before .before in
-      (omega (arith, entry-expr-bp-arg expr-bp-arg .pre .0), expect2 .expect2 .ensures .fit)
+      let expected2 = c .before .before .before in
+      let expr-bp-arg = expected2 .before .before .before .before .before .before in
+      (omega (arith, entry-expr-bp-arg expr-bp-arg .pre .0), expected2 .expected2 .ensures .fit)
 
-  pub complete-requires-3 : Here lts.Need-complete-requires-3
-  complete-requires-3 c κs = c .before .before .before .body .ensures .fit
+  pub completed-requires-3 : Here lts.Need-completed-requires-3
+  completed-requires-3 c κs = c .before .before .before .body .ensures .fit
 
   pub same-length-10 : Here lts.Need-same-length-10
   same-length-10 c =
-      let complete3 = c .before .before .before in
-      let body = complete3 .before .before .before .before in
-      let expect2 = body .before .before .before .before .before in
-      let expr-bp = expect2 .before .before .before .before .before in
-      let expect = expr-bp .before .before .before .before .before in
-      let bump = expect .before .before .before .before in
+      let completed3 = c .before .before in
+      let body = completed3 .before .before .before .before in
+      let expected2 = body .before .before .before .before in
+      let expr-bp = expected2 .before .before .before .before .before in
+      let expected = expr-bp .before .before .before .before in
+      let bump = expected .before .before .before .before in
       let must3 = bump .before .before .before .before in
-      complete3 .complete3 .kept .1 .0 ∙ body .body .kept .1 .1 .0 ∙ expect2 .expect2 .kept .1 .1 .1 .0 ∙ expr-bp .expr-bp .kept .1
-      .1 .0 ∙ expect .expect .kept .1 .1 .1 .0 ∙ bump .bump .kept .1 .1 .1 .0 ∙ must3 .must3 .kept .1 .1 .1 .0
+      completed3 .completed3 .kept .0 ∙ body .body .kept .1 .1 .0 ∙ expected2 .expected2 .kept .1 .1 .0 ∙ expr-bp .expr-bp .kept .1
+      .1 .0 ∙ expected .expected .kept .1 .1 .0 ∙ bump .bump .kept .1 .1 .1 .0 ∙ must3 .must3 .kept .1 .1 .1 .0
 
   pub returns-10 : Here lts.Need-returns-10
   unfolding I.optItem I.qubitDeclarationStmt E.qubitTypeSpec I.whileStmt I.cal
   returns-10 c =
-      let complete3 = c .before .before .before in
-      let body = complete3 .before .before .before .before in
-      let expect2 = body .before .before .before .before .before in
-      let expr-bp = expect2 .before .before .before .before .before in
-      let expect = expr-bp .before .before .before .before .before in
-      let bump = expect .before .before .before .before in
+      let completed3 = c .before .before in
+      let body = completed3 .before .before .before .before in
+      let expected2 = body .before .before .before .before in
+      let expr-bp = expected2 .before .before .before .before .before in
+      let expected = expr-bp .before .before .before .before in
+      let bump = expected .before .before .before .before in
       let must3 = bump .before .before .before .before in
       let match = must3 .before .before in
       let current2 = match .before .before in
@@ -508,12 +509,12 @@ module _ (t : ℕ) where
       (simp (assoc, pick-bind, done-bind)
       (then _ _ _ _ (must3 .must3 .ensures)
       (then _ _ _ _ (bump .bump .ensures)
-      (then _ _ _ _ (expect .expect .ensures)
+      (past _ _ _ _ (expected .expected .ensures)
       (then _ _ _ _ (expr-bp .expr-bp .ensures)
-      (then _ _ _ _ (expect2 .expect2 .ensures)
+      (past _ _ _ _ (expected2 .expected2 .ensures)
       (then _ _ _ _ (body .body .ensures)
-      (step _ _ _ _ (complete3 .complete3 .ensures)
-      (ends _ _ _ (complete3 .complete3 .ensures .fit))))))))))))))
+      (passed _ _ _ _ (completed3 .completed3 .ensures)
+      (ends _ _ _ (completed3 .completed3 .ensures .fit))))))))))))))
 
   pub fors-requires : Here lts.Need-fors-requires
   fors-requires c κs =
@@ -605,21 +606,21 @@ module _ (t : ℕ) where
       let p3 = bump2 .before .before .before in
       (omega (arith, entry-p3 p3 .pre .0), bump2 .bump2 .ensures .fit)
 
-  pub complete-requires-4 : Here lts.Need-complete-requires-4
-  complete-requires-4 c κs = c .before .before .before .body2 .ensures .fit
+  pub completed-requires-4 : Here lts.Need-completed-requires-4
+  completed-requires-4 c κs = c .before .before .before .body2 .ensures .fit
 
   pub same-length-14 : Here lts.Need-same-length-14
   same-length-14 c =
-      let complete4 = c .before .before .before in
-      let body2 = complete4 .before .before .before .before in
+      let completed4 = c .before .before in
+      let body2 = completed4 .before .before .before .before in
       let bump2 = body2 .before .before .before .before in
-      complete4 .complete4 .kept .1 .0 ∙ body2 .body2 .kept .1 .1 .0 ∙ bump2 .bump2 .kept .1 .1 .1 .0
+      completed4 .completed4 .kept .0 ∙ body2 .body2 .kept .1 .1 .0 ∙ bump2 .bump2 .kept .1 .1 .1 .0
 
   pub returns-14 : Here lts.Need-returns-14
   unfolding I.optItem I.qubitDeclarationStmt E.qubitTypeSpec I.whileStmt I.cal
   returns-14 c =
-      let complete4 = c .before .before .before in
-      let body2 = complete4 .before .before .before .before in
+      let completed4 = c .before .before in
+      let body2 = completed4 .before .before .before .before in
       let bump2 = body2 .before .before .before .before in
       let match = bump2 .before .before in
       let current2 = match .before .before in
@@ -635,8 +636,8 @@ module _ (t : ℕ) where
       (simp (assoc, pick-bind, done-bind)
       (then _ _ _ _ (bump2 .bump2 .ensures)
       (then _ _ _ _ (body2 .body2 .ensures)
-      (step _ _ _ _ (complete4 .complete4 .ensures)
-      (ends _ _ _ (complete4 .complete4 .ensures .fit))))))))))
+      (passed _ _ _ _ (completed4 .completed4 .ensures)
+      (ends _ _ _ (completed4 .completed4 .ensures .fit))))))))))
 
   pub defcalgrammar--requires : Here lts.Need-defcalgrammar--requires
   defcalgrammar--requires c κs = c .before .before .before .current2 .ensures .fit

@@ -2,19 +2,19 @@
 -- `par`.
 use borrow.Author.Needs.{needs}
 use Rattle.runtime.proofs.Laws.{then, step, see, ends}
-use Rattle.grammar.proofs.Laws.{assoc, pick-bind, done-bind}
+use Rattle.grammar.proofs.Laws.{assoc, pick-bind, done-bind, passed}
 use native.Mathlib.Omega.{arith}
 use lib.ListN.{length}
 use mathlib.Core.Path.{_≡_, _∙_}
 use Prim.Native.Nat.{ℕ}
 use Rattle.grammar.specs.Expressions as E
 use Rattle.grammar.specs.Params as P
+use Rattle.grammar.proofs.completed.Reads as completed-reads
 use Rattle.grammar.proofs.expressions.var_name.Reads as var-name-reads
 use Rattle.grammar.proofs.params.param_untyped.Reads as param-untyped-reads
 use Rattle.runtime.proofs.parser.Parser.abandon.Reads as abandon-reads
 use Rattle.runtime.proofs.parser.Parser.at.Reads as at-reads
 use Rattle.runtime.proofs.parser.Parser.bump.Reads as bump-reads
-use Rattle.runtime.proofs.parser.Parser.complete.Reads as complete-reads
 use Rattle.runtime.proofs.parser.Parser.start.Reads as start-reads
 use Rattle.cycle.proofs.expr_bp.Reads as expr-bp
 use Rattle.cycle.proofs.par.Reads as par
@@ -39,8 +39,8 @@ calls t = (
   at-reads.Learnt,
   bump-reads.Asked,
   bump-reads.Learnt,
-  complete-reads.Asked,
-  complete-reads.Learnt,
+  completed-reads.Asked,
+  completed-reads.Learnt,
   qarg-below
       t,
   qarg.Post,
@@ -129,22 +129,22 @@ module _ (t : ℕ) where
       let expr-bp2 = bump2 .before .before .before .before .before .before .before in
       (omega (arith, entry-expr-bp2 expr-bp2 .pre .0), (bump2 .bump2 .ensures .fit, search needs))
 
-  pub complete-requires : Here lts.Need-complete-requires
-  complete-requires c κs = c .before .before .before .before .expr-bp3 .ensures .fit
+  pub completed-requires : Here lts.Need-completed-requires
+  completed-requires c κs = c .before .before .before .before .expr-bp3 .ensures .fit
 
   pub same-length : Here lts.Need-same-length
   same-length c =
-      let complete = c .before .before .before in
-      let expr-bp3 = complete .before .before .before .before .before in
+      let completed = c .before .before in
+      let expr-bp3 = completed .before .before .before .before .before in
       let bump2 = expr-bp3 .before .before .before .before in
       let expr-bp2 = bump2 .before .before .before .before .before .before .before in
-      complete .complete .kept .1 .0 ∙ expr-bp3 .expr-bp3 .kept .1 .1 .0 ∙ bump2 .bump2 .kept .1 .1 .1 .0 ∙ kept-expr-bp2 expr-bp2
+      completed .completed .kept .0 ∙ expr-bp3 .expr-bp3 .kept .1 .1 .0 ∙ bump2 .bump2 .kept .1 .1 .1 .0 ∙ kept-expr-bp2 expr-bp2
 
   pub returns : Here lts.Need-returns
   unfolding P.foundParam P.paramTyped E.exprOrRangeExpr
   returns c =
-      let complete = c .before .before .before in
-      let expr-bp3 = complete .before .before .before .before .before in
+      let completed = c .before .before in
+      let expr-bp3 = completed .before .before .before .before .before in
       let bump2 = expr-bp3 .before .before .before .before in
       let if2 = bump2 .before .before in
       let at2 = if2 .before in
@@ -169,23 +169,23 @@ module _ (t : ℕ) where
       (rw (if2 .if2 .taken)
       (then _ _ _ _ (bump2 .bump2 .ensures)
       (then _ _ _ _ (expr-bp3 .expr-bp3 .ensures)
-      (step _ _ _ _ (complete .complete .ensures)
-      (ends _ _ _ (complete .complete .ensures .fit)))))))))))))))
+      (passed _ _ _ _ (completed .completed .ensures)
+      (ends _ _ _ (completed .completed .ensures .fit)))))))))))))))
 
-  pub complete-requires-2 : Here lts.Need-complete-requires-2
-  complete-requires-2 c κs = c .before .before .before .before .before .before .expr-bp2 .ensures .fit
+  pub completed-requires-2 : Here lts.Need-completed-requires-2
+  completed-requires-2 c κs = c .before .before .before .before .before .before .expr-bp2 .ensures .fit
 
   pub same-length-2 : Here lts.Need-same-length-2
   same-length-2 c =
-      let complete2 = c .before .before .before in
-      let expr-bp2 = complete2 .before .before .before .before .before .before .before in
-      complete2 .complete2 .kept .1 .0 ∙ kept-expr-bp2 expr-bp2
+      let completed2 = c .before .before in
+      let expr-bp2 = completed2 .before .before .before .before .before .before .before in
+      completed2 .completed2 .kept .0 ∙ kept-expr-bp2 expr-bp2
 
   pub returns-2 : Here lts.Need-returns-2
   unfolding P.foundParam P.paramTyped E.exprOrRangeExpr
   returns-2 c =
-      let complete2 = c .before .before .before in
-      let if2 = complete2 .before .before in
+      let completed2 = c .before .before in
+      let if2 = completed2 .before .before in
       let at2 = if2 .before in
       let expr-bp2 = at2 .before .before .before .before in
       let bump = expr-bp2 .before .before .before .before in
@@ -206,8 +206,8 @@ module _ (t : ℕ) where
       (then _ _ _ _ (expr-bp2 .expr-bp2 .ensures)
       (see _ _ _ _ (at2 .at2 .ensures)
       (rw (if2 .if2 .left)
-      (step _ _ _ _ (complete2 .complete2 .ensures)
-      (ends _ _ _ (complete2 .complete2 .ensures .fit)))))))))))))
+      (passed _ _ _ _ (completed2 .completed2 .ensures)
+      (ends _ _ _ (completed2 .completed2 .ensures .fit)))))))))))))
 
   pub abandon-requires-2 : Here lts.Need-abandon-requires-2
   abandon-requires-2 c κs = c .before .before .before .before .before .before .expr-bp .ensures .fit
@@ -272,28 +272,28 @@ module _ (t : ℕ) where
   pub var-name-requires : Here lts.Need-var-name-requires
   var-name-requires c κs = c .before .before .before .spec .ensures .fit
 
-  pub complete-requires-3 : Here lts.Need-complete-requires-3
-  complete-requires-3 c κs = c .before .before .before .var-name .ensures .fit
+  pub completed-requires-3 : Here lts.Need-completed-requires-3
+  completed-requires-3 c κs = c .before .before .before .var-name .ensures .fit
 
   pub same-length-5 : Here lts.Need-same-length-5
   same-length-5 c =
-      let complete3 = c .before .before .before in
-      let var-name = complete3 .before .before .before .before in
+      let completed3 = c .before .before in
+      let var-name = completed3 .before .before .before .before in
       let spec = var-name .before .before .before .before in
-      complete3 .complete3 .kept .1 .0 ∙ var-name .var-name .kept .1 .1 .0 ∙ spec .spec .kept .1 .1 .0
+      completed3 .completed3 .kept .0 ∙ var-name .var-name .kept .1 .1 .0 ∙ spec .spec .kept .1 .1 .0
 
   pub returns-5 : Here lts.Need-returns-5
   unfolding P.foundParam P.paramTyped E.exprOrRangeExpr
   returns-5 c =
-      let complete3 = c .before .before .before in
-      let var-name = complete3 .before .before .before .before in
+      let completed3 = c .before .before in
+      let var-name = completed3 .before .before .before .before in
       let spec = var-name .before .before .before .before in
       let enum-told3 = spec .before .before in
       rw (enum-told3 .enum-told3 .given .1)
       (then _ _ _ _ (spec .spec .ensures)
       (then _ _ _ _ (var-name .var-name .ensures)
-      (step _ _ _ _ (complete3 .complete3 .ensures)
-      (ends _ _ _ (complete3 .complete3 .ensures .fit)))))
+      (passed _ _ _ _ (completed3 .completed3 .ensures)
+      (ends _ _ _ (completed3 .completed3 .ensures .fit)))))
 
   pub enum-told-4 : Here lts.Need-enum-told-4
   enum-told-4 c = search needs

@@ -1,12 +1,13 @@
 -- Written by tools/proofs from the code, the definitions and hints.py: docs/PRODUCTIONS.md says how to change it.
 -- `qarg`.
 use Rattle.runtime.proofs.Laws.{then, step, see, ends}
-use Rattle.grammar.proofs.Laws.{assoc, pick-bind, done-bind}
+use Rattle.grammar.proofs.Laws.{assoc, pick-bind, done-bind, passed}
 use native.Mathlib.Omega.{arith}
 use lib.ListN.{length}
 use mathlib.Core.Path.{_≡_, _∙_}
 use Prim.Native.Nat.{ℕ}
 use Rattle.grammar.specs.Params as P
+use Rattle.grammar.proofs.completed.Reads as completed-reads
 use Rattle.runtime.proofs.parser.Parser.abandon.Reads as abandon-reads
 use Rattle.runtime.proofs.parser.Parser.at.Reads as at-reads
 use Rattle.runtime.proofs.parser.Parser.bump.Reads as bump-reads
@@ -27,6 +28,8 @@ calls t = (
   at-reads.Learnt,
   bump-reads.Asked,
   bump-reads.Learnt,
+  completed-reads.Asked,
+  completed-reads.Learnt,
   complete-reads.Asked,
   complete-reads.Learnt,
   ids-below t,
@@ -44,11 +47,11 @@ module _ (t : ℕ) where
   abbrev entry-at : Here lts.After-at → Here lts.Start
   entry-at c = c .before .before .before .before
 
-  abbrev entry-complete2 : Here lts.After-complete2 → Here lts.Start
-  entry-complete2 c = entry-at (c .before .before .before .before .before .before .before .before .before)
+  abbrev entry-complete : Here lts.After-complete → Here lts.Start
+  entry-complete c = entry-at (c .before .before .before .before .before .before .before .before .before)
 
-  kept-complete2 : (c : Here lts.After-complete2) → length (c .complete2 .last .1 .0) ≡ length (entry-complete2 c .args .room .now)
-  kept-complete2 c = c .complete2 .kept .1 .0 ∙ c .before .before .before .before .bump2 .kept .1 .1 .1 .0
+  kept-complete : (c : Here lts.After-complete) → length (c .complete .last .1 .0) ≡ length (entry-complete c .args .room .now)
+  kept-complete c = c .complete .kept .1 .0 ∙ c .before .before .before .before .bump2 .kept .1 .1 .1 .0
 
   pub at-requires : Here lts.Need-at-requires
   at-requires c κs = c .before .before .before .pre .1
@@ -56,28 +59,28 @@ module _ (t : ℕ) where
   pub bump-requires : Here lts.Need-bump-requires
   bump-requires c κs = entry-at (c .before .before) .pre .1
 
-  pub complete-requires : Here lts.Need-complete-requires
-  complete-requires c κs = c .before .before .before .bump .ensures .fit
+  pub completed-requires : Here lts.Need-completed-requires
+  completed-requires c κs = c .before .before .before .bump .ensures .fit
 
   pub same-length : Here lts.Need-same-length
   same-length c =
-      let complete = c .before .before .before in
-      let bump = complete .before .before .before .before in
-      complete .complete .kept .1 .0 ∙ bump .bump .kept .1 .1 .1 .0
+      let completed = c .before .before in
+      let bump = completed .before .before .before .before in
+      completed .completed .kept .0 ∙ bump .bump .kept .1 .1 .1 .0
 
   pub returns : Here lts.Need-returns
   unfolding P.argGateCallQubit
   returns c =
-      let complete = c .before .before .before in
-      let bump = complete .before .before .before .before in
+      let completed = c .before .before in
+      let bump = completed .before .before .before .before in
       let if1 = bump .before .before in
       let at = if1 .before in
       simp (assoc, pick-bind, done-bind)
       (see _ _ _ _ (at .at .ensures)
       (rw (if1 .if1 .taken)
       (then _ _ _ _ (bump .bump .ensures)
-      (step _ _ _ _ (complete .complete .ensures)
-      (ends _ _ _ (complete .complete .ensures .fit))))))
+      (passed _ _ _ _ (completed .completed .ensures)
+      (ends _ _ _ (completed .completed .ensures .fit))))))
 
   pub at-requires-2 : Here lts.Need-at-requires-2
   at-requires-2 c κs = entry-at (c .before) .pre .1
@@ -85,24 +88,24 @@ module _ (t : ℕ) where
   pub bump-requires-2 : Here lts.Need-bump-requires-2
   bump-requires-2 c κs = entry-at (c .before .before .before .before) .pre .1
 
-  pub complete-requires-2 : Here lts.Need-complete-requires-2
-  complete-requires-2 c κs = c .before .before .before .bump2 .ensures .fit
+  pub complete-requires : Here lts.Need-complete-requires
+  complete-requires c κs = c .before .before .before .bump2 .ensures .fit
 
   pub at-requires-3 : Here lts.Need-at-requires-3
-  at-requires-3 c κs = c .before .before .before .before .complete2 .ensures .fit
+  at-requires-3 c κs = c .before .before .before .before .complete .ensures .fit
 
   pub ids-requires : Here lts.Need-ids-requires
   ids-requires c κs = (
-    omega (arith, entry-complete2 (c .before .before .before .before .before .before .before) .pre .0),
-    c
-        .before .before .before .before .before .before .before .complete2 .ensures .fit,
+    omega (arith, entry-complete (c .before .before .before .before .before .before .before) .pre .0),
+    c .before
+        .before .before .before .before .before .before .complete .ensures .fit,
   )
 
   pub same-length-2 : Here lts.Need-same-length-2
   same-length-2 c =
       let ids = c .before .before .before in
-      let complete2 = ids .before .before .before .before .before .before .before .before in
-      ids .ids .kept .1 .1 .0 ∙ kept-complete2 complete2
+      let complete = ids .before .before .before .before .before .before .before .before in
+      ids .ids .kept .1 .1 .0 ∙ kept-complete complete
 
   pub returns-2 : Here lts.Need-returns-2
   unfolding P.argGateCallQubit
@@ -110,8 +113,8 @@ module _ (t : ℕ) where
       let ids = c .before .before .before in
       let if3 = ids .before .before in
       let at3 = if3 .before in
-      let complete2 = at3 .before .before .before .before .before in
-      let bump2 = complete2 .before .before .before .before in
+      let complete = at3 .before .before .before .before .before in
+      let bump2 = complete .before .before .before .before in
       let if2 = bump2 .before .before in
       let at2 = if2 .before in
       let if1 = at2 .before in
@@ -122,21 +125,21 @@ module _ (t : ℕ) where
       (see _ _ _ _ (at2 .at2 .ensures)
       (rw (if2 .if2 .taken)
       (then _ _ _ _ (bump2 .bump2 .ensures)
-      (step _ _ _ _ (complete2 .complete2 .ensures)
+      (step _ _ _ _ (complete .complete .ensures)
       (see _ _ _ _ (at3 .at3 .ensures)
       (rw (if3 .if3 .taken)
       (then _ _ _ _ (ids .ids .ensures)
       (ends _ _ _ (ids .ids .ensures .fit)))))))))))
 
   pub same-length-3 : Here lts.Need-same-length-3
-  same-length-3 c = kept-complete2 (c .before .before .before .before .before .before)
+  same-length-3 c = kept-complete (c .before .before .before .before .before .before)
 
   pub returns-3 : Here lts.Need-returns-3
   unfolding P.argGateCallQubit
   returns-3 c =
       let at3 = c .before in
-      let complete2 = at3 .before .before .before .before .before in
-      let bump2 = complete2 .before .before .before .before in
+      let complete = at3 .before .before .before .before .before in
+      let bump2 = complete .before .before .before .before in
       let if2 = bump2 .before .before in
       let at2 = if2 .before in
       let if1 = at2 .before in
@@ -147,10 +150,10 @@ module _ (t : ℕ) where
       (see _ _ _ _ (at2 .at2 .ensures)
       (rw (if2 .if2 .taken)
       (then _ _ _ _ (bump2 .bump2 .ensures)
-      (step _ _ _ _ (complete2 .complete2 .ensures)
+      (step _ _ _ _ (complete .complete .ensures)
       (see _ _ _ _ (at3 .at3 .ensures)
       (rw (c .if3 .left)
-      (ends _ _ _ (complete2 .complete2 .ensures .fit))))))))))
+      (ends _ _ _ (complete .complete .ensures .fit))))))))))
 
   pub error-requires : Here lts.Need-error-requires
   error-requires c κs = entry-at (c .before .before .before .before) .pre .1

@@ -1,13 +1,13 @@
 -- Written by tools/proofs from the code, the definitions and hints.py: docs/PRODUCTIONS.md says how to change it.
 -- `rest`.
-use Rattle.runtime.proofs.Laws.{then, step, see, ends}
-use Rattle.grammar.proofs.Laws.{assoc, pick-bind, done-bind}
+use Rattle.runtime.proofs.Laws.{then, see, any}
+use Rattle.grammar.proofs.Laws.{assoc, pick-bind, done-bind, passed}
 use native.Mathlib.Omega.{arith}
 use mathlib.Core.Path.{_∙_}
 use Prim.Native.Nat.{ℕ}
 use Rattle.grammar.specs.Items as I
+use Rattle.grammar.proofs.completed.Reads as completed-reads
 use Rattle.runtime.proofs.parser.Parser.at.Reads as at-reads
-use Rattle.runtime.proofs.parser.Parser.complete.Reads as complete-reads
 use Rattle.cycle.proofs.blk.Reads as blk
 use Rattle.cycle.proofs.rest.Reads as rest
 use Rattle.cycle.proofs.stmt.Reads as stmt
@@ -20,8 +20,8 @@ use borrow.Fn.Kinds.{In, Out}
 -- what the callees ask and give
 abbrev pub calls : ℕ → lts.Claims
 calls t = (
-  complete-reads.Asked,
-  complete-reads.Learnt,
+  completed-reads.Asked,
+  completed-reads.Learnt,
   at-reads.Asked,
   at-reads.Learnt,
   blk-below t,
@@ -34,72 +34,70 @@ module _ (t : ℕ) where
   abbrev Here : (lts.Claims → In 3 kinds.ps → Out 3 kinds.ps kinds.r → Type 0) → Type 0
   Here X = X (calls t) (rest-at t) rest.Post
 
-  pub complete-requires : Here lts.Need-complete-requires
-  complete-requires c κs = c .before .before .before .before .pre .1
+  pub completed-requires : Here lts.Need-completed-requires
+  completed-requires c κs = c .before .before .before .before .pre .1
 
   pub at-requires : Here lts.Need-at-requires
-  at-requires c κs = c .before .before .before .complete .ensures .fit
+  at-requires c κs = c .before .before .completed .ensures .fit
 
   pub blk-requires : Here lts.Need-blk-requires
   blk-requires c κs =
-      let complete = c .before .before .before .before .before .before in
-      let entry = complete .before .before .before .before .before in
-      (omega (arith, entry .pre .0), complete .complete .ensures .fit)
+      let completed = c .before .before .before .before .before in
+      let entry = completed .before .before .before .before .before in
+      (omega (arith, entry .pre .0), completed .completed .ensures .fit)
 
-  pub complete-requires-2 : Here lts.Need-complete-requires-2
-  complete-requires-2 c κs = c .before .before .before .before .blk .ensures .fit
+  pub completed-requires-2 : Here lts.Need-completed-requires-2
+  completed-requires-2 c κs = c .before .before .before .before .blk .ensures .fit
 
   pub same-length : Here lts.Need-same-length
   same-length c =
-      let complete2 = c .before .before .before in
-      let blk = complete2 .before .before .before .before .before in
-      let complete = blk .before .before .before .before .before .before .before in
-      complete2 .complete2 .kept .1 .0 ∙ blk .blk .kept .1 .1 .0 ∙ complete .complete .kept .1 .0
+      let completed2 = c .before .before in
+      let blk = completed2 .before .before .before .before .before in
+      let completed = blk .before .before .before .before .before .before in
+      completed2 .completed2 .kept .0 ∙ blk .blk .kept .1 .1 .0 ∙ completed .completed .kept .0
 
   pub returns : Here lts.Need-returns
   unfolding I.forRest
   returns c =
-      let complete2 = c .before .before .before in
-      let blk = complete2 .before .before .before .before .before in
+      let completed2 = c .before .before in
+      let blk = completed2 .before .before .before .before .before in
       let if1 = blk .before .before in
       let at = if1 .before in
-      let complete = at .before .before .before .before in
+      let completed = at .before .before .before in
       simp (assoc, pick-bind, done-bind)
-      (step _ _ _ _ (complete .complete .ensures)
+      (passed _ _ _ _ (completed .completed .ensures)
       (see _ _ _ _ (at .at .ensures)
       (rw (if1 .if1 .taken)
       (then _ _ _ _ (blk .blk .ensures)
-      (step _ _ _ _ (complete2 .complete2 .ensures)
-      (ends _ _ _ (complete2 .complete2 .ensures .fit)))))))
+      (any _ _ _ (completed2 .completed2 .ensures))))))
 
   pub stmt-requires : Here lts.Need-stmt-requires
   stmt-requires c κs =
-      let complete = c .before .before .before .before .before .before in
-      let entry = complete .before .before .before .before .before in
-      (omega (arith, entry .pre .0), complete .complete .ensures .fit)
+      let completed = c .before .before .before .before .before in
+      let entry = completed .before .before .before .before .before in
+      (omega (arith, entry .pre .0), completed .completed .ensures .fit)
 
-  pub complete-requires-3 : Here lts.Need-complete-requires-3
-  complete-requires-3 c κs = c .before .before .before .stmt .ensures .fit
+  pub completed-requires-3 : Here lts.Need-completed-requires-3
+  completed-requires-3 c κs = c .before .before .before .stmt .ensures .fit
 
   pub same-length-2 : Here lts.Need-same-length-2
   same-length-2 c =
-      let complete3 = c .before .before .before in
-      let stmt = complete3 .before .before .before .before in
-      let complete = stmt .before .before .before .before .before .before .before in
-      complete3 .complete3 .kept .1 .0 ∙ stmt .stmt .kept .1 .1 .0 ∙ complete .complete .kept .1 .0
+      let completed3 = c .before .before in
+      let stmt = completed3 .before .before .before .before in
+      let completed = stmt .before .before .before .before .before .before in
+      completed3 .completed3 .kept .0 ∙ stmt .stmt .kept .1 .1 .0 ∙ completed .completed .kept .0
 
   pub returns-2 : Here lts.Need-returns-2
   unfolding I.forRest
   returns-2 c =
-      let complete3 = c .before .before .before in
-      let stmt = complete3 .before .before .before .before in
+      let completed3 = c .before .before in
+      let stmt = completed3 .before .before .before .before in
       let if1 = stmt .before .before in
       let at = if1 .before in
-      let complete = at .before .before .before .before in
+      let completed = at .before .before .before in
       simp (assoc, pick-bind, done-bind)
-      (step _ _ _ _ (complete .complete .ensures)
+      (passed _ _ _ _ (completed .completed .ensures)
       (see _ _ _ _ (at .at .ensures)
       (rw (if1 .if1 .left)
       (then _ _ _ _ (stmt .stmt .ensures)
-      (step _ _ _ _ (complete3 .complete3 .ensures)
-      (ends _ _ _ (complete3 .complete3 .ensures .fit)))))))
+      (any _ _ _ (completed3 .completed3 .ensures))))))

@@ -1,15 +1,15 @@
 -- Written by tools/proofs from the code, the definitions and hints.py: docs/PRODUCTIONS.md says how to change it.
 -- `scal`.
-use Rattle.runtime.proofs.Laws.{then, step, see, ends}
+use Rattle.runtime.proofs.Laws.{then, step, see, any}
 use Rattle.grammar.proofs.Laws.{assoc, pick-bind, done-bind}
 use native.Mathlib.Omega.{arith}
 use lib.ListN.{length}
 use mathlib.Core.Path.{_≡_, _∙_}
 use Prim.Native.Nat.{ℕ}
 use Rattle.grammar.specs.Expressions as E
+use Rattle.grammar.proofs.completed.Reads as completed-reads
 use Rattle.grammar.proofs.expressions.type_name.Reads as type-name-reads
 use Rattle.runtime.proofs.parser.Parser.at.Reads as at-reads
-use Rattle.runtime.proofs.parser.Parser.complete.Reads as complete-reads
 use Rattle.runtime.proofs.parser.Parser.start.Reads as start-reads
 use Rattle.cycle.proofs.cplx.Reads as cplx
 use Rattle.cycle.proofs.scal.Reads as scal
@@ -33,8 +33,8 @@ calls t = (
   type-name-reads.Learnt,
   width-below t,
   width.Post,
-  complete-reads.Asked,
-  complete-reads.Learnt,
+  completed-reads.Asked,
+  completed-reads.Learnt,
 )
 
 module _ (t : ℕ) where
@@ -87,21 +87,21 @@ module _ (t : ℕ) where
         .before .before .before .type-name .ensures .fit,
   )
 
-  pub complete-requires : Here lts.Need-complete-requires
-  complete-requires c κs = c .before .before .before .width .ensures .fit
+  pub completed-requires : Here lts.Need-completed-requires
+  completed-requires c κs = c .before .before .before .width .ensures .fit
 
   pub same-length-2 : Here lts.Need-same-length-2
   same-length-2 c =
-      let complete = c .before .before .before in
-      let width = complete .before .before .before .before in
+      let completed = c .before .before in
+      let width = completed .before .before .before .before in
       let type-name = width .before .before .before .before .before .before in
-      complete .complete .kept .1 .0 ∙ width .width .kept .1 .1 .0 ∙ kept-type-name type-name
+      completed .completed .kept .0 ∙ width .width .kept .1 .1 .0 ∙ kept-type-name type-name
 
   pub returns-2 : Here lts.Need-returns-2
   unfolding E.nonArrayTypeSpec
   returns-2 c =
-      let complete = c .before .before .before in
-      let width = complete .before .before .before .before in
+      let completed = c .before .before in
+      let width = completed .before .before .before .before in
       let if2 = width .before .before in
       let at2 = if2 .before in
       let type-name = at2 .before .before .before in
@@ -116,23 +116,22 @@ module _ (t : ℕ) where
       (see _ _ _ _ (at2 .at2 .ensures)
       (rw (if2 .if2 .taken)
       (then _ _ _ _ (width .width .ensures)
-      (step _ _ _ _ (complete .complete .ensures)
-      (ends _ _ _ (complete .complete .ensures .fit))))))))))
+      (any _ _ _ (completed .completed .ensures)))))))))
 
-  pub complete-requires-2 : Here lts.Need-complete-requires-2
-  complete-requires-2 c κs = c .before .before .before .before .before .type-name .ensures .fit
+  pub completed-requires-2 : Here lts.Need-completed-requires-2
+  completed-requires-2 c κs = c .before .before .before .before .before .type-name .ensures .fit
 
   pub same-length-3 : Here lts.Need-same-length-3
   same-length-3 c =
-      let complete2 = c .before .before .before in
-      let type-name = complete2 .before .before .before .before .before .before in
-      complete2 .complete2 .kept .1 .0 ∙ kept-type-name type-name
+      let completed2 = c .before .before in
+      let type-name = completed2 .before .before .before .before .before .before in
+      completed2 .completed2 .kept .0 ∙ kept-type-name type-name
 
   pub returns-3 : Here lts.Need-returns-3
   unfolding E.nonArrayTypeSpec
   returns-3 c =
-      let complete2 = c .before .before .before in
-      let if2 = complete2 .before .before in
+      let completed2 = c .before .before in
+      let if2 = completed2 .before .before in
       let at2 = if2 .before in
       let type-name = at2 .before .before .before in
       let start = type-name .before .before .before .before .before in
@@ -145,5 +144,4 @@ module _ (t : ℕ) where
       (then _ _ _ _ (type-name .type-name .ensures)
       (see _ _ _ _ (at2 .at2 .ensures)
       (rw (if2 .if2 .left)
-      (step _ _ _ _ (complete2 .complete2 .ensures)
-      (ends _ _ _ (complete2 .complete2 .ensures .fit)))))))))
+      (any _ _ _ (completed2 .completed2 .ensures))))))))

@@ -1,12 +1,12 @@
 -- Written by tools/proofs from the code, the definitions and hints.py: docs/PRODUCTIONS.md says how to change it.
 -- `set`.
-use Rattle.runtime.proofs.Laws.{then, step, ends}
+use Rattle.runtime.proofs.Laws.{then, step, any}
 use native.Mathlib.Omega.{arith}
 use mathlib.Core.Path.{_∙_}
 use Prim.Native.Nat.{ℕ}
 use Rattle.grammar.specs.Expressions as E
+use Rattle.grammar.proofs.completed.Reads as completed-reads
 use Rattle.runtime.proofs.parser.Parser.bump.Reads as bump-reads
-use Rattle.runtime.proofs.parser.Parser.complete.Reads as complete-reads
 use Rattle.runtime.proofs.parser.Parser.must.Reads as must-reads
 use Rattle.runtime.proofs.parser.Parser.start.Reads as start-reads
 use Rattle.cycle.proofs.els.Reads as els
@@ -28,8 +28,8 @@ calls t = (
   bump-reads.Learnt,
   els-below t,
   els.Post,
-  complete-reads.Asked,
-  complete-reads.Learnt,
+  completed-reads.Asked,
+  completed-reads.Learnt,
 )
 
 module _ (t : ℕ) where
@@ -55,25 +55,25 @@ module _ (t : ℕ) where
   pub bump-requires-2 : Here lts.Need-bump-requires-2
   bump-requires-2 c κs = c .before .before .before .els .ensures .fit
 
-  pub complete-requires : Here lts.Need-complete-requires
-  complete-requires c κs = c .before .before .before .bump2 .ensures .fit
+  pub completed-requires : Here lts.Need-completed-requires
+  completed-requires c κs = c .before .before .before .bump2 .ensures .fit
 
   pub same-length : Here lts.Need-same-length
   same-length c =
-      let complete = c .before .before .before in
-      let bump2 = complete .before .before .before .before in
+      let completed = c .before .before in
+      let bump2 = completed .before .before .before .before in
       let els = bump2 .before .before .before .before in
       let bump = els .before .before .before .before in
       let start = bump .before .before .before .before .before in
       let must = start .before .before .before .before in
-      complete .complete .kept .1 .0 ∙ bump2 .bump2 .kept .1 .1 .1 .0 ∙ els .els .kept .1 .1 .0 ∙ bump .bump .kept .1 .1 .1 .0 ∙
+      completed .completed .kept .0 ∙ bump2 .bump2 .kept .1 .1 .1 .0 ∙ els .els .kept .1 .1 .0 ∙ bump .bump .kept .1 .1 .1 .0 ∙
       start .start .kept .1 .0 ∙ must .must .kept .1 .1 .1 .0
 
   pub returns : Here lts.Need-returns
   unfolding E.setExpression
   returns c =
-      let complete = c .before .before .before in
-      let bump2 = complete .before .before .before .before in
+      let completed = c .before .before in
+      let bump2 = completed .before .before .before .before in
       let els = bump2 .before .before .before .before in
       let bump = els .before .before .before .before in
       let start = bump .before .before .before .before .before in
@@ -83,5 +83,4 @@ module _ (t : ℕ) where
       (then _ _ _ _ (bump .bump .ensures)
       (then _ _ _ _ (els .els .ensures)
       (then _ _ _ _ (bump2 .bump2 .ensures)
-      (step _ _ _ _ (complete .complete .ensures)
-      (ends _ _ _ (complete .complete .ensures .fit)))))))
+      (any _ _ _ (completed .completed .ensures))))))

@@ -1,20 +1,20 @@
 -- Written by tools/proofs from the code, the definitions and hints.py: docs/PRODUCTIONS.md says how to change it.
 -- `sig`.
 use borrow.Author.Needs.{needs}
-use Rattle.runtime.proofs.Laws.{then, step, peek, see, ends}
-use Rattle.grammar.proofs.Laws.{assoc, pick-bind, done-bind}
+use Rattle.runtime.proofs.Laws.{then, step, peek, see, any}
+use Rattle.grammar.proofs.Laws.{assoc, pick-bind, done-bind, passed}
 use native.Mathlib.Omega.{arith}
 use lib.ListN.{length}
 use mathlib.Core.Path.{_≡_, sym, _∙_}
 use Prim.Native.Nat.{ℕ}
 use Rattle.grammar.specs.Grammar as G
 use Rattle.grammar.specs.Items as I
+use Rattle.grammar.proofs.completed.Reads as completed-reads
 use Rattle.grammar.proofs.scalar_return.Reads as scalar-return-reads
 use Rattle.kinds.proofs.syntax_kind.is_type.Reads as is-type-reads
 use Rattle.runtime.proofs.parser.Parser.abandon.Reads as abandon-reads
 use Rattle.runtime.proofs.parser.Parser.at.Reads as at-reads
 use Rattle.runtime.proofs.parser.Parser.bump.Reads as bump-reads
-use Rattle.runtime.proofs.parser.Parser.complete.Reads as complete-reads
 use Rattle.runtime.proofs.parser.Parser.current.Reads as current-reads
 use Rattle.runtime.proofs.parser.Parser.start.Reads as start-reads
 use Rattle.cycle.proofs.body.Reads as body
@@ -43,8 +43,8 @@ calls t = (
   is-type-reads.Learnt,
   spec-below t,
   spec.Post,
-  complete-reads.Asked,
-  complete-reads.Learnt,
+  completed-reads.Asked,
+  completed-reads.Learnt,
   body-below t,
   body.Post,
   abandon-reads.Asked,
@@ -98,35 +98,35 @@ module _ (t : ℕ) where
   pub spec-requires : Here lts.Need-spec-requires
   spec-requires c κs = (omega (arith, entry-spec-arg c .pre .0), c .before .before .before .before .current .ensures .fit)
 
-  pub complete-requires : Here lts.Need-complete-requires
-  complete-requires c κs = c .before .before .before .spec .ensures .fit
+  pub completed-requires : Here lts.Need-completed-requires
+  completed-requires c κs = c .before .before .before .spec .ensures .fit
 
   pub body-requires : Here lts.Need-body-requires
   body-requires c κs =
-      let complete = c .before .before .before .before in
-      let spec-arg = complete .before .before .before .before .before in
-      (omega (arith, entry-spec-arg spec-arg .pre .0), complete .complete .ensures .fit)
+      let completed = c .before .before .before in
+      let spec-arg = completed .before .before .before .before .before in
+      (omega (arith, entry-spec-arg spec-arg .pre .0), completed .completed .ensures .fit)
 
-  pub complete-requires-2 : Here lts.Need-complete-requires-2
-  complete-requires-2 c κs = c .before .before .before .body .ensures .fit
+  pub completed-requires-2 : Here lts.Need-completed-requires-2
+  completed-requires-2 c κs = c .before .before .before .body .ensures .fit
 
   pub same-length : Here lts.Need-same-length
   same-length c =
-      let complete2 = c .before .before .before in
-      let body = complete2 .before .before .before .before in
-      let complete = body .before .before .before .before .before in
-      let spec = complete .before .before .before .before in
+      let completed2 = c .before .before in
+      let body = completed2 .before .before .before .before in
+      let completed = body .before .before .before .before in
+      let spec = completed .before .before .before .before in
       let scalar-return = spec .before .before .before .before .before .before .before .before in
-      complete2 .complete2 .kept .1 .0 ∙ body .body .kept .1 .1 .0 ∙ complete .complete .kept .1 .0 ∙ spec .spec .kept .1 .1 .0 ∙
+      completed2 .completed2 .kept .0 ∙ body .body .kept .1 .1 .0 ∙ completed .completed .kept .0 ∙ spec .spec .kept .1 .1 .0 ∙
       kept-scalar-return scalar-return
 
   pub returns : Here lts.Need-returns
   unfolding I.signature G.optRetType
   returns c =
-      let complete2 = c .before .before .before in
-      let body = complete2 .before .before .before .before in
-      let complete = body .before .before .before .before .before in
-      let spec = complete .before .before .before .before in
+      let completed2 = c .before .before in
+      let body = completed2 .before .before .before .before in
+      let completed = body .before .before .before .before in
+      let spec = completed .before .before .before .before in
       let if2 = spec .before .before in
       let is-type = if2 .before in
       let current = is-type .before .before in
@@ -144,10 +144,9 @@ module _ (t : ℕ) where
       (peek _ _ _ _ _ (current .current .ensures)
       (rw (sym (is-type .is-type .ensures) ∙ if2 .if2 .taken)
       (then _ _ _ _ (spec .spec .ensures)
-      (step _ _ _ _ (complete .complete .ensures)
+      (passed _ _ _ _ (completed .completed .ensures)
       (then _ _ _ _ (body .body .ensures)
-      (step _ _ _ _ (complete2 .complete2 .ensures)
-      (ends _ _ _ (complete2 .complete2 .ensures .fit)))))))))))))
+      (any _ _ _ (completed2 .completed2 .ensures))))))))))))
 
   pub abandon-requires : Here lts.Need-abandon-requires
   abandon-requires c κs = c .before .before .before .before .current .ensures .fit
@@ -158,23 +157,23 @@ module _ (t : ℕ) where
       let is-type = abandon .before .before .before in
       (omega (arith, entry-is-type is-type .pre .0), abandon .abandon .ensures .fit)
 
-  pub complete-requires-3 : Here lts.Need-complete-requires-3
-  complete-requires-3 c κs = c .before .before .before .body2 .ensures .fit
+  pub completed-requires-3 : Here lts.Need-completed-requires-3
+  completed-requires-3 c κs = c .before .before .before .body2 .ensures .fit
 
   pub same-length-2 : Here lts.Need-same-length-2
   same-length-2 c =
-      let complete3 = c .before .before .before in
-      let body2 = complete3 .before .before .before .before in
+      let completed3 = c .before .before in
+      let body2 = completed3 .before .before .before .before in
       let abandon = body2 .before .before .before .before in
       let scalar-return = abandon .before .before .before .before .before .before .before .before in
-      complete3 .complete3 .kept .1 .0 ∙ body2 .body2 .kept .1 .1 .0 ∙ abandon .abandon .kept .1 .0 ∙ kept-scalar-return
+      completed3 .completed3 .kept .0 ∙ body2 .body2 .kept .1 .1 .0 ∙ abandon .abandon .kept .1 .0 ∙ kept-scalar-return
       scalar-return
 
   pub returns-2 : Here lts.Need-returns-2
   unfolding I.signature G.optRetType
   returns-2 c =
-      let complete3 = c .before .before .before in
-      let body2 = complete3 .before .before .before .before in
+      let completed3 = c .before .before in
+      let body2 = completed3 .before .before .before .before in
       let abandon = body2 .before .before .before .before in
       let if2 = abandon .before .before in
       let is-type = if2 .before in
@@ -194,31 +193,29 @@ module _ (t : ℕ) where
       (rw (sym (is-type .is-type .ensures) ∙ if2 .if2 .left)
       (step _ _ _ _ (abandon .abandon .ensures)
       (then _ _ _ _ (body2 .body2 .ensures)
-      (step _ _ _ _ (complete3 .complete3 .ensures)
-      (ends _ _ _ (complete3 .complete3 .ensures .fit))))))))))))
+      (any _ _ _ (completed3 .completed3 .ensures)))))))))))
 
   pub body-requires-3 : Here lts.Need-body-requires-3
   body-requires-3 c κs = (omega (arith, entry-at (c .before .before) .pre .0), entry-at (c .before .before) .pre .1)
 
-  pub complete-requires-4 : Here lts.Need-complete-requires-4
-  complete-requires-4 c κs = c .before .before .before .body3 .ensures .fit
+  pub completed-requires-4 : Here lts.Need-completed-requires-4
+  completed-requires-4 c κs = c .before .before .before .body3 .ensures .fit
 
   pub same-length-3 : Here lts.Need-same-length-3
   same-length-3 c =
-      let complete4 = c .before .before .before in
-      let body3 = complete4 .before .before .before .before in
-      complete4 .complete4 .kept .1 .0 ∙ body3 .body3 .kept .1 .1 .0
+      let completed4 = c .before .before in
+      let body3 = completed4 .before .before .before .before in
+      completed4 .completed4 .kept .0 ∙ body3 .body3 .kept .1 .1 .0
 
   pub returns-3 : Here lts.Need-returns-3
   unfolding I.signature G.optRetType
   returns-3 c =
-      let complete4 = c .before .before .before in
-      let body3 = complete4 .before .before .before .before in
+      let completed4 = c .before .before in
+      let body3 = completed4 .before .before .before .before in
       let if1 = body3 .before .before in
       let at = if1 .before in
       simp (assoc, pick-bind, done-bind)
       (see _ _ _ _ (at .at .ensures)
       (rw (if1 .if1 .left)
       (then _ _ _ _ (body3 .body3 .ensures)
-      (step _ _ _ _ (complete4 .complete4 .ensures)
-      (ends _ _ _ (complete4 .complete4 .ensures .fit))))))
+      (any _ _ _ (completed4 .completed4 .ensures)))))

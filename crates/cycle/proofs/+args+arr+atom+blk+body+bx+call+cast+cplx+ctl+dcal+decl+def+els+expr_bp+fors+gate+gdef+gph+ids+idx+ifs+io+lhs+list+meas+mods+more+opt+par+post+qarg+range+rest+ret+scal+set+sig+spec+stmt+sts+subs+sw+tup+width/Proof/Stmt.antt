@@ -2,6 +2,7 @@
 -- `stmt`.
 use borrow.Author.Needs.{needs}
 use Rattle.runtime.proofs.Laws.{then, step, peek, see, any, ends}
+use Rattle.grammar.proofs.Laws.{past}
 use native.Mathlib.Omega.{arith}
 use lib.ListN.{length}
 use mathlib.Core.Path.{_≡_, _∙_}
@@ -10,16 +11,16 @@ use Prim.Native.Nat.{ℕ}
 use Rattle.cycle.proofs.Depth.{stmt-deeper}
 use Rattle.grammar.specs.Expressions as E
 use Rattle.grammar.proofs.close.Reads as close-reads
+use Rattle.grammar.proofs.completed.Reads as completed-reads
+use Rattle.grammar.proofs.expected.Reads as expected-reads
 use Rattle.grammar.proofs.expressions.stmt_end.Reads as stmt-end-reads
 use Rattle.grammar.proofs.expressions.stmt_lacks_expr.Reads as stmt-lacks-expr-reads
 use Rattle.runtime.proofs.parser.Parser.abandon.Reads as abandon-reads
 use Rattle.runtime.proofs.parser.Parser.at.Reads as at-reads
 use Rattle.runtime.proofs.parser.Parser.bump.Reads as bump-reads
 use Rattle.runtime.proofs.parser.Parser.bump_any.Reads as bump-any-reads
-use Rattle.runtime.proofs.parser.Parser.complete.Reads as complete-reads
 use Rattle.runtime.proofs.parser.Parser.eat.Reads as eat-reads
 use Rattle.runtime.proofs.parser.Parser.err_and_bump.Reads as err-and-bump-reads
-use Rattle.runtime.proofs.parser.Parser.expect.Reads as expect-reads
 use Rattle.runtime.proofs.parser.Parser.start.Reads as start-reads
 use Rattle.runtime.proofs.parser.Parser.stop.Reads as stop-reads
 use Rattle.cycle.proofs.expr_bp.Reads as expr-bp
@@ -44,8 +45,8 @@ calls t = (
   start-reads.Learnt,
   bump-reads.Asked,
   bump-reads.Learnt,
-  expect-reads.Asked,
-  expect-reads.Learnt,
+  expected-reads.Asked,
+  expected-reads.Learnt,
   expr-bp-below t,
   expr-bp.Post,
   close-reads.Asked,
@@ -54,8 +55,8 @@ calls t = (
   opt.Post,
   bump-any-reads.Asked,
   bump-any-reads.Learnt,
-  complete-reads.Asked,
-  complete-reads.Learnt,
+  completed-reads.Asked,
+  completed-reads.Learnt,
   stmt-lacks-expr-reads.Asked,
   stmt-lacks-expr-reads.Learnt,
   err-and-bump-reads.Asked,
@@ -140,19 +141,19 @@ module _ (t : ℕ) where
   pub bump-requires : Here lts.Need-bump-requires
   bump-requires c κs = c .before .before .before .before .start .ensures .fit
 
-  pub expect-requires : Here lts.Need-expect-requires
-  expect-requires c κs = c .before .before .before .bump .ensures .fit
+  pub expected-requires : Here lts.Need-expected-requires
+  expected-requires c κs = c .before .before .before .bump .ensures .fit
 
-  pub expect-requires-2 : Here lts.Need-expect-requires-2
-  expect-requires-2 c κs = c .before .before .before .before .expect .ensures .fit
+  pub expected-requires-2 : Here lts.Need-expected-requires-2
+  expected-requires-2 c κs = c .before .before .before .expected .ensures .fit
 
   pub expr-bp-requires : Here lts.Need-expr-bp-requires
   expr-bp-requires c κs =
-      let expect2 = c .before .before .before .before in
-      let at = expect2 .before .before .before .before .before .before .before .before .before .before .before .before .before
-      .before .before .before .before in
+      let expected2 = c .before .before .before in
+      let at = expected2 .before .before .before .before .before .before .before .before .before .before .before .before .before
+      .before .before .before in
       let if1 = at .before .before .before .before .before .before .before in
-      (omega (arith, entry-at at .pre .0, if1 .if1 .left), (expect2 .expect2 .ensures .fit, search needs))
+      (omega (arith, entry-at at .pre .0, if1 .if1 .left), (expected2 .expected2 .ensures .fit, search needs))
 
   pub close-requires : Here lts.Need-close-requires
   close-requires c κs = c .before .before .before .before .expr-bp .ensures .fit
@@ -161,22 +162,22 @@ module _ (t : ℕ) where
   same-length-3 c =
       let close = c .before .before in
       let expr-bp = close .before .before .before .before .before in
-      let expect2 = expr-bp .before .before .before .before .before in
-      let expect = expect2 .before .before .before .before .before in
-      let bump = expect .before .before .before .before in
+      let expected2 = expr-bp .before .before .before .before in
+      let expected = expected2 .before .before .before .before in
+      let bump = expected .before .before .before .before in
       let start = bump .before .before .before .before .before in
       let eat = start .before .before .before .before .before .before .before .before in
-      close .close .kept .1 .1 .0 ∙ expr-bp .expr-bp .kept .1 .1 .0 ∙ expect2 .expect2 .kept .1 .1 .1 .0 ∙ expect .expect .kept .1
-      .1 .1 .0 ∙ bump .bump .kept .1 .1 .1 .0 ∙ start .start .kept .1 .0 ∙ eat .eat .kept .1 .1 .1 .0
+      close .close .kept .1 .1 .0 ∙ expr-bp .expr-bp .kept .1 .1 .0 ∙ expected2 .expected2 .kept .1 .1 .0 ∙ expected .expected
+      .kept .1 .1 .0 ∙ bump .bump .kept .1 .1 .1 .0 ∙ start .start .kept .1 .0 ∙ eat .eat .kept .1 .1 .1 .0
 
   pub returns-3 : Here lts.Need-returns-3
   unfolding E.stmt E.letStmt
   returns-3 c =
       let close = c .before .before in
       let expr-bp = close .before .before .before .before .before in
-      let expect2 = expr-bp .before .before .before .before .before in
-      let expect = expect2 .before .before .before .before .before in
-      let bump = expect .before .before .before .before in
+      let expected2 = expr-bp .before .before .before .before in
+      let expected = expected2 .before .before .before .before in
+      let bump = expected .before .before .before .before in
       let start = bump .before .before .before .before .before in
       let if3 = start .before .before in
       let at = if3 .before in
@@ -190,8 +191,8 @@ module _ (t : ℕ) where
       (rw (if3 .if3 .taken)
       (step _ _ _ _ (start .start .ensures)
       (then _ _ _ _ (bump .bump .ensures)
-      (then _ _ _ _ (expect .expect .ensures)
-      (then _ _ _ _ (expect2 .expect2 .ensures)
+      (past _ _ _ _ (expected .expected .ensures)
+      (past _ _ _ _ (expected2 .expected2 .ensures)
       (then _ _ _ _ (expr-bp .expr-bp .ensures)
       (close .close .ensures))))))))))
 
@@ -233,21 +234,21 @@ module _ (t : ℕ) where
   pub bump-any-requires : Here lts.Need-bump-any-requires
   bump-any-requires c κs = c .before .before .before .before .before .before .before .opt .ensures .fit
 
-  pub complete-requires : Here lts.Need-complete-requires
-  complete-requires c κs = c .before .before .before .bump-any .ensures .fit
+  pub completed-requires : Here lts.Need-completed-requires
+  completed-requires c κs = c .before .before .before .bump-any .ensures .fit
 
   pub same-length-5 : Here lts.Need-same-length-5
   same-length-5 c =
-      let complete = c .before .before .before in
-      let bump-any = complete .before .before .before .before in
+      let completed = c .before .before in
+      let bump-any = completed .before .before .before .before in
       let opt = bump-any .before .before .before .before .before .before .before .before in
-      complete .complete .kept .1 .0 ∙ bump-any .bump-any .kept .1 .1 .1 .0 ∙ kept-opt opt
+      completed .completed .kept .0 ∙ bump-any .bump-any .kept .1 .1 .1 .0 ∙ kept-opt opt
 
   pub returns-5 : Here lts.Need-returns-5
   unfolding E.stmt E.letStmt
   returns-5 c =
-      let complete = c .before .before .before in
-      let bump-any = complete .before .before .before .before in
+      let completed = c .before .before in
+      let bump-any = completed .before .before .before .before in
       let if5 = bump-any .before .before in
       let at2 = if5 .before in
       let if4 = at2 .before in
@@ -269,8 +270,7 @@ module _ (t : ℕ) where
       (see _ _ _ _ (at2 .at2 .ensures)
       (rw (if5 .if5 .taken)
       (then _ _ _ _ (bump-any .bump-any .ensures)
-      (step _ _ _ _ (complete .complete .ensures)
-      (ends _ _ _ (complete .complete .ensures .fit)))))))))))))
+      (any _ _ _ (completed .completed .ensures))))))))))))
 
   pub at-requires-3 : Here lts.Need-at-requires-3
   at-requires-3 c κs = c .before .before .before .before .before .before .opt .ensures .fit
@@ -278,21 +278,21 @@ module _ (t : ℕ) where
   pub bump-any-requires-2 : Here lts.Need-bump-any-requires-2
   bump-any-requires-2 c κs = c .before .before .before .before .before .before .before .before .before .opt .ensures .fit
 
-  pub complete-requires-2 : Here lts.Need-complete-requires-2
-  complete-requires-2 c κs = c .before .before .before .bump-any2 .ensures .fit
+  pub completed-requires-2 : Here lts.Need-completed-requires-2
+  completed-requires-2 c κs = c .before .before .before .bump-any2 .ensures .fit
 
   pub same-length-6 : Here lts.Need-same-length-6
   same-length-6 c =
-      let complete2 = c .before .before .before in
-      let bump-any2 = complete2 .before .before .before .before in
+      let completed2 = c .before .before in
+      let bump-any2 = completed2 .before .before .before .before in
       let opt = bump-any2 .before .before .before .before .before .before .before .before .before .before in
-      complete2 .complete2 .kept .1 .0 ∙ bump-any2 .bump-any2 .kept .1 .1 .1 .0 ∙ kept-opt opt
+      completed2 .completed2 .kept .0 ∙ bump-any2 .bump-any2 .kept .1 .1 .1 .0 ∙ kept-opt opt
 
   pub returns-6 : Here lts.Need-returns-6
   unfolding E.stmt E.letStmt
   returns-6 c =
-      let complete2 = c .before .before .before in
-      let bump-any2 = complete2 .before .before .before .before in
+      let completed2 = c .before .before in
+      let bump-any2 = completed2 .before .before .before .before in
       let if6 = bump-any2 .before .before in
       let at3 = if6 .before in
       let if5 = at3 .before in
@@ -318,8 +318,7 @@ module _ (t : ℕ) where
       (see _ _ _ _ (at3 .at3 .ensures)
       (rw (if6 .if6 .taken)
       (then _ _ _ _ (bump-any2 .bump-any2 .ensures)
-      (step _ _ _ _ (complete2 .complete2 .ensures)
-      (ends _ _ _ (complete2 .complete2 .ensures .fit)))))))))))))))
+      (any _ _ _ (completed2 .completed2 .ensures))))))))))))))
 
   pub stmt-lacks-expr-requires : Here lts.Need-stmt-lacks-expr-requires
   stmt-lacks-expr-requires c κs = c .before .before .before .before .before .before .before .before .opt .ensures .fit

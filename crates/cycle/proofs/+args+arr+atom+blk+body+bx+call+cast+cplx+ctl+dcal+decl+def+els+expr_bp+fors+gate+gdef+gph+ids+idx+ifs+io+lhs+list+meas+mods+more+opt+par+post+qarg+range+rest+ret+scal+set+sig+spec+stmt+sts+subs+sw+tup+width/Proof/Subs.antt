@@ -1,15 +1,15 @@
 -- Written by tools/proofs from the code, the definitions and hints.py: docs/PRODUCTIONS.md says how to change it.
 -- `subs`.
 use Rattle.runtime.proofs.Laws.{then, step, see}
-use Rattle.grammar.proofs.Laws.{assoc, pick-bind, done-bind}
+use Rattle.grammar.proofs.Laws.{assoc, pick-bind, done-bind, past}
 use native.Mathlib.Omega.{arith}
 use lib.ListN.{length}
 use mathlib.Core.Path.{_≡_, _∙_}
 use Prim.Native.Nat.{ℕ}
 use Rattle.grammar.specs.Expressions as E
 use Rattle.grammar.proofs.close.Reads as close-reads
+use Rattle.grammar.proofs.expected.Reads as expected-reads
 use Rattle.runtime.proofs.parser.Parser.at.Reads as at-reads
-use Rattle.runtime.proofs.parser.Parser.expect.Reads as expect-reads
 use Rattle.runtime.proofs.parser.Parser.must.Reads as must-reads
 use Rattle.runtime.proofs.parser.Parser.start.Reads as start-reads
 use Rattle.cycle.proofs.els.Reads as els
@@ -28,8 +28,8 @@ calls t = (
   must-reads.Learnt,
   start-reads.Asked,
   start-reads.Learnt,
-  expect-reads.Asked,
-  expect-reads.Learnt,
+  expected-reads.Asked,
+  expected-reads.Learnt,
   at-reads.Asked,
   at-reads.Learnt,
   set-below t,
@@ -44,20 +44,20 @@ module _ (t : ℕ) where
   abbrev Here : (lts.Claims → In 3 kinds.ps → Out 3 kinds.ps kinds.r → Type 0) → Type 0
   Here X = X (calls t) (subs-at t) subs.Post
 
-  abbrev entry-start : Here lts.After-start → Here lts.Start
-  entry-start c = c .before .before .before .before .before .before .before .before .before
+  abbrev entry-must : Here lts.After-must → Here lts.Start
+  entry-must c = c .before .before .before .before .before
 
-  abbrev entry-expect : Here lts.After-expect → Here lts.Start
-  entry-expect c = entry-start (c .before .before .before .before .before)
+  abbrev entry-expected : Here lts.After-expected → Here lts.Start
+  entry-expected c = entry-must (c .before .before .before .before .before .before .before .before .before)
 
-  kept-expect : (c : Here lts.After-expect) → length (c .expect .last .1 .1 .1 .0) ≡ length (entry-expect c .args .room .now)
-  kept-expect c =
+  kept-expected : (c : Here lts.After-expected) → length (c .expected .last .1 .1 .0) ≡ length (entry-expected c .args .room .now)
+  kept-expected c =
       let start = c .before .before .before .before .before in
       let must = start .before .before .before .before in
-      c .expect .kept .1 .1 .1 .0 ∙ start .start .kept .1 .0 ∙ must .must .kept .1 .1 .1 .0
+      c .expected .kept .1 .1 .0 ∙ start .start .kept .1 .0 ∙ must .must .kept .1 .1 .1 .0
 
   abbrev entry-at : Here lts.After-at → Here lts.Start
-  entry-at c = entry-expect (c .before .before .before .before)
+  entry-at c = entry-expected (c .before .before .before)
 
   pub must-requires : Here lts.Need-must-requires
   must-requires c κs = c .before .before .before .before .pre .1
@@ -65,17 +65,17 @@ module _ (t : ℕ) where
   pub start-requires : Here lts.Need-start-requires
   start-requires c κs = c .before .before .before .must .ensures .fit
 
-  pub expect-requires : Here lts.Need-expect-requires
-  expect-requires c κs = c .before .before .before .before .start .ensures .fit
+  pub expected-requires : Here lts.Need-expected-requires
+  expected-requires c κs = c .before .before .before .before .start .ensures .fit
 
   pub at-requires : Here lts.Need-at-requires
-  at-requires c κs = c .before .before .before .expect .ensures .fit
+  at-requires c κs = c .before .before .expected .ensures .fit
 
   pub set-requires : Here lts.Need-set-requires
   set-requires c κs =
       let at = c .before .before in
-      let expect = at .before .before .before .before in
-      (omega (arith, entry-at at .pre .0), expect .expect .ensures .fit)
+      let expected = at .before .before .before in
+      (omega (arith, entry-at at .pre .0), expected .expected .ensures .fit)
 
   pub close-requires : Here lts.Need-close-requires
   close-requires c κs = c .before .before .before .set .ensures .fit
@@ -84,8 +84,8 @@ module _ (t : ℕ) where
   same-length c =
       let close = c .before .before in
       let set = close .before .before .before .before in
-      let expect = set .before .before .before .before .before .before .before in
-      close .close .kept .1 .1 .0 ∙ set .set .kept .1 .1 .0 ∙ kept-expect expect
+      let expected = set .before .before .before .before .before .before in
+      close .close .kept .1 .1 .0 ∙ set .set .kept .1 .1 .0 ∙ kept-expected expected
 
   pub returns : Here lts.Need-returns
   unfolding E.indexOperator
@@ -94,13 +94,13 @@ module _ (t : ℕ) where
       let set = close .before .before .before .before in
       let if1 = set .before .before in
       let at = if1 .before in
-      let expect = at .before .before .before .before in
-      let start = expect .before .before .before .before .before in
+      let expected = at .before .before .before in
+      let start = expected .before .before .before .before .before in
       let must = start .before .before .before .before in
       simp (assoc, pick-bind, done-bind)
       (then _ _ _ _ (must .must .ensures)
       (step _ _ _ _ (start .start .ensures)
-      (then _ _ _ _ (expect .expect .ensures)
+      (past _ _ _ _ (expected .expected .ensures)
       (see _ _ _ _ (at .at .ensures)
       (rw (if1 .if1 .taken)
       (then _ _ _ _ (set .set .ensures)
@@ -109,8 +109,8 @@ module _ (t : ℕ) where
   pub els-requires : Here lts.Need-els-requires
   els-requires c κs =
       let at = c .before .before in
-      let expect = at .before .before .before .before in
-      (omega (arith, entry-at at .pre .0), expect .expect .ensures .fit)
+      let expected = at .before .before .before in
+      (omega (arith, entry-at at .pre .0), expected .expected .ensures .fit)
 
   pub close-requires-2 : Here lts.Need-close-requires-2
   close-requires-2 c κs = c .before .before .before .els .ensures .fit
@@ -119,8 +119,8 @@ module _ (t : ℕ) where
   same-length-2 c =
       let close2 = c .before .before in
       let els = close2 .before .before .before .before in
-      let expect = els .before .before .before .before .before .before .before in
-      close2 .close2 .kept .1 .1 .0 ∙ els .els .kept .1 .1 .0 ∙ kept-expect expect
+      let expected = els .before .before .before .before .before .before in
+      close2 .close2 .kept .1 .1 .0 ∙ els .els .kept .1 .1 .0 ∙ kept-expected expected
 
   pub returns-2 : Here lts.Need-returns-2
   unfolding E.indexOperator
@@ -129,13 +129,13 @@ module _ (t : ℕ) where
       let els = close2 .before .before .before .before in
       let if1 = els .before .before in
       let at = if1 .before in
-      let expect = at .before .before .before .before in
-      let start = expect .before .before .before .before .before in
+      let expected = at .before .before .before in
+      let start = expected .before .before .before .before .before in
       let must = start .before .before .before .before in
       simp (assoc, pick-bind, done-bind)
       (then _ _ _ _ (must .must .ensures)
       (step _ _ _ _ (start .start .ensures)
-      (then _ _ _ _ (expect .expect .ensures)
+      (past _ _ _ _ (expected .expected .ensures)
       (see _ _ _ _ (at .at .ensures)
       (rw (if1 .if1 .left)
       (then _ _ _ _ (els .els .ensures)

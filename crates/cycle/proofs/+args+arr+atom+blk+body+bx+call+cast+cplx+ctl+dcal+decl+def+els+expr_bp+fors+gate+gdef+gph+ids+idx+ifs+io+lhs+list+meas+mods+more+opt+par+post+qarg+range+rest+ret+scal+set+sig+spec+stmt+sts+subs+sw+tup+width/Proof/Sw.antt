@@ -2,7 +2,7 @@
 -- `sw`.
 use borrow.Author.Needs.{needs}
 use Rattle.runtime.proofs.Laws.{then, step, see, ends, Ran, ran-none, ran-more, ran-done, spent-does, spent-steps, left-sees, spends-bump}
-use Rattle.grammar.proofs.Laws.{assoc, pick-bind, done-bind}
+use Rattle.grammar.proofs.Laws.{assoc, pick-bind, done-bind, past, passed}
 use native.Mathlib.Nat.{lt-of-le-of-lt}
 use native.Mathlib.Omega.{arith}
 use lib.ListN.{length}
@@ -17,12 +17,12 @@ use Rattle.kinds.specs.Kinds.{CASE-KW}
 use Rattle.runtime.specs.Acts as acts
 use Rattle.grammar.specs.Items as I
 use Rattle.grammar.proofs.close.Reads as close-reads
+use Rattle.grammar.proofs.completed.Reads as completed-reads
+use Rattle.grammar.proofs.expected.Reads as expected-reads
 use Rattle.grammar.proofs.fail_unless_at.Reads as fail-unless-at-reads
 use Rattle.runtime.proofs.parser.Parser.at.Reads as at-reads
 use Rattle.runtime.proofs.parser.Parser.bump.Reads as bump-reads
-use Rattle.runtime.proofs.parser.Parser.complete.Reads as complete-reads
 use Rattle.runtime.proofs.parser.Parser.eat.Reads as eat-reads
-use Rattle.runtime.proofs.parser.Parser.expect.Reads as expect-reads
 use Rattle.runtime.proofs.parser.Parser.must.Reads as must-reads
 use Rattle.runtime.proofs.parser.Parser.start.Reads as start-reads
 use Rattle.cycle.proofs.body.Reads as body
@@ -42,8 +42,8 @@ calls t = (
   must-reads.Learnt,
   bump-reads.Asked,
   bump-reads.Learnt,
-  expect-reads.Asked,
-  expect-reads.Learnt,
+  expected-reads.Asked,
+  expected-reads.Learnt,
   expr-bp-below t,
   expr-bp.Post,
   fail-unless-at-reads.Asked,
@@ -56,8 +56,8 @@ calls t = (
   els.Post,
   body-below t,
   body.Post,
-  complete-reads.Asked,
-  complete-reads.Learnt,
+  completed-reads.Asked,
+  completed-reads.Learnt,
   eat-reads.Asked,
   eat-reads.Learnt,
   close-reads.Asked,
@@ -79,16 +79,13 @@ module _ (t : ℕ) where
   entry-bump c = c .before .before .before .before .before .before .before .before .before
 
   abbrev entry-expr-bp-arg : Here lts.After-expr-bp-arg → Here lts.Start
-  entry-expr-bp-arg c = entry-bump (c .before .before .before .before .before .before .before .before)
+  entry-expr-bp-arg c = entry-bump (c .before .before .before .before .before .before .before)
 
-  abbrev entry-expr-bp : Here lts.After-expr-bp → Here lts.Start
-  entry-expr-bp c = entry-expr-bp-arg (c .before)
-
-  abbrev entry-expect3 : Here lts.After-expect3 → Here lts.Start
-  entry-expect3 c = entry-expr-bp (c .before .before .before .before .before .before .before .before .before .before)
+  abbrev entry-expected3 : Here lts.After-expected3 → Here lts.Start
+  entry-expected3 c = entry-expr-bp-arg (c .before .before .before .before .before .before .before .before .before .before)
 
   abbrev entry-at : Here lts.After-at → Here lts.Start
-  entry-at c = entry-expect3 (c .before .before .before .before .before .before .before .before .before)
+  entry-at c = entry-expected3 (c .before .before .before .before .before .before .before .before)
 
   abbrev entry-if1-taken : Here lts.Then1 → Here lts.Start
   entry-if1-taken c = entry-at (c .before)
@@ -100,14 +97,14 @@ module _ (t : ℕ) where
   kept-eat c =
       let loop = c .before .before .before .before in
       let fail-unless-at = loop .before .before .before in
-      let expect3 = fail-unless-at .before .before .before .before .before in
-      let expect2 = expect3 .before .before .before .before .before in
-      let expr-bp = expect2 .before .before .before .before .before in
-      let expect = expr-bp .before .before .before .before .before in
-      let bump = expect .before .before .before .before in
+      let expected3 = fail-unless-at .before .before .before .before in
+      let expected2 = expected3 .before .before .before .before in
+      let expr-bp = expected2 .before .before .before .before .before in
+      let expected = expr-bp .before .before .before .before in
+      let bump = expected .before .before .before .before in
       let must = bump .before .before .before .before in
-      c .eat .kept .1 .1 .1 .0 ∙ loop .loop .inv .0 ∙ fail-unless-at .fail-unless-at .kept .1 .1 .0 ∙ expect3 .expect3 .kept .1 .1
-      .1 .0 ∙ expect2 .expect2 .kept .1 .1 .1 .0 ∙ expr-bp .expr-bp .kept .1 .1 .0 ∙ expect .expect .kept .1 .1 .1 .0 ∙ bump
+      c .eat .kept .1 .1 .1 .0 ∙ loop .loop .inv .0 ∙ fail-unless-at .fail-unless-at .kept .1 .1 .0 ∙ expected3 .expected3 .kept .1
+      .1 .0 ∙ expected2 .expected2 .kept .1 .1 .0 ∙ expr-bp .expr-bp .kept .1 .1 .0 ∙ expected .expected .kept .1 .1 .0 ∙ bump
       .bump .kept .1 .1 .1 .0 ∙ must .must .kept .1 .1 .1 .0
 
   abbrev entry-els-arg : Here lts.After-els-arg → Here lts.Start
@@ -119,26 +116,27 @@ module _ (t : ℕ) where
   pub bump-requires : Here lts.Need-bump-requires
   bump-requires c κs = c .before .before .before .must .ensures .fit
 
-  pub expect-requires : Here lts.Need-expect-requires
-  expect-requires c κs = c .before .before .before .bump .ensures .fit
+  pub expected-requires : Here lts.Need-expected-requires
+  expected-requires c κs = c .before .before .before .bump .ensures .fit
 
   pub expr-bp-requires : Here lts.Need-expr-bp-requires
   expr-bp-requires c κs = (
     omega (arith, entry-expr-bp-arg c .pre .0),
     (
-      c .before .before .before .before .expect .ensures .fit,
-      search needs,
+      c .before .before .before .expected .ensures .fit,
+      search
+          needs,
     ),
   )
 
-  pub expect-requires-2 : Here lts.Need-expect-requires-2
-  expect-requires-2 c κs = c .before .before .before .before .expr-bp .ensures .fit
+  pub expected-requires-2 : Here lts.Need-expected-requires-2
+  expected-requires-2 c κs = c .before .before .before .before .expr-bp .ensures .fit
 
-  pub expect-requires-3 : Here lts.Need-expect-requires-3
-  expect-requires-3 c κs = c .before .before .before .before .expect2 .ensures .fit
+  pub expected-requires-3 : Here lts.Need-expected-requires-3
+  expected-requires-3 c κs = c .before .before .before .expected2 .ensures .fit
 
   pub fail-unless-at-requires : Here lts.Need-fail-unless-at-requires
-  fail-unless-at-requires c κs = c .before .before .before .before .expect3 .ensures .fit
+  fail-unless-at-requires c κs = c .before .before .before .expected3 .ensures .fit
 
   pub loop-holds : Here lts.Need-loop-holds
   loop-holds c = (refl, ran-none _ _ _ _ (c .before .before .fail-unless-at .ensures .fit))
@@ -161,19 +159,19 @@ module _ (t : ℕ) where
       let els-arg = els .before in
       (omega (arith, entry-els-arg els-arg .pre .0), els .els .ensures .fit)
 
-  pub complete-requires : Here lts.Need-complete-requires
-  complete-requires c κs = c .before .before .before .body .ensures .fit
+  pub completed-requires : Here lts.Need-completed-requires
+  completed-requires c κs = c .before .before .before .body .ensures .fit
 
   pub loop-less : Here lts.Need-loop-less
   loop-less c =
-      let complete = c .before .before .before in
-      let body = complete .before .before .before .before in
+      let completed = c .before .before in
+      let body = completed .before .before .before .before in
       let els = body .before .before .before .before in
       let bump2 = els .before .before .before .before in
       let start = bump2 .before .before .before .before .before in
       let if1 = start .before .before in
       let at = if1 .before in
-      lt-of-le-of-lt (spent-steps _ _ (complete .complete .ensures)) (lt-of-le-of-lt (spent-does _ _ _ (body .body .ensures))
+      lt-of-le-of-lt (spent-steps _ _ (completed .completed .ensures)) (lt-of-le-of-lt (spent-does _ _ _ (body .body .ensures))
       (lt-of-le-of-lt (spent-does _ _ _ (els .els .ensures)) (falls-after _ _ _ _ (spends-bump _) (left-sees _ _ CASE-KW (λ z.
       omega arith) (sym (at .at .ensures) ∙ if1 .if1 .taken)) (spent-steps _ _ (start .start .ensures)) (bump2 .bump2
       .ensures))))
@@ -181,16 +179,16 @@ module _ (t : ℕ) where
   pub loop-again : Here lts.Need-loop-again
   unfolding I.switchCaseStmt I.switchCaseStmtRound
   loop-again c =
-      let complete = c .before .before .before in
-      let body = complete .before .before .before .before in
+      let completed = c .before .before in
+      let body = completed .before .before .before .before in
       let els = body .before .before .before .before in
       let bump2 = els .before .before .before .before in
       let start = bump2 .before .before .before .before .before in
       let if1 = start .before .before in
       let at = if1 .before in
       let loop = at .before in (
-        complete .complete .kept .1 .0 ∙ body .body .kept .1 .1 .0 ∙ els .els .kept .1 .1 .0 ∙ bump2 .bump2 .kept .1 .1 .1 .0 ∙
-            start .start .kept .1 .0 ∙ loop .loop .inv .0,
+        completed .completed .kept .0 ∙ body .body .kept .1 .1 .0 ∙ els .els .kept .1 .1 .0 ∙ bump2 .bump2 .kept .1 .1 .1 .0 ∙ start
+            .start .kept .1 .0 ∙ loop .loop .inv .0,
         ran-more _ _ _ _ _ _ _ _ (loop .loop .inv .1)
             (see _ _ _ _ (at .at .ensures)
             (rw (if1 .if1 .taken)
@@ -198,9 +196,9 @@ module _ (t : ℕ) where
             (then _ _ _ _ (bump2 .bump2 .ensures)
             (then _ _ _ _ (els .els .ensures)
             (then _ _ _ _ (body .body .ensures)
-            (step _ _ _ _ (complete .complete .ensures)
-            (ends _ _ _ (complete .complete .ensures .fit)))))))))
-            (lt-of-le-of-lt (spent-steps _ _ (complete .complete .ensures)) (lt-of-le-of-lt (spent-does _ _ _ (body .body .ensures))
+            (passed _ _ _ _ (completed .completed .ensures)
+            (ends _ _ _ (completed .completed .ensures .fit)))))))))
+            (lt-of-le-of-lt (spent-steps _ _ (completed .completed .ensures)) (lt-of-le-of-lt (spent-does _ _ _ (body .body .ensures))
             (lt-of-le-of-lt (spent-does _ _ _ (els .els .ensures)) (falls-after _ _ _ _ (spends-bump _) (left-sees _ _ CASE-KW (λ z.
             omega arith) (sym (at .at .ensures) ∙ if1 .if1 .taken)) (spent-steps _ _ (start .start .ensures)) (bump2 .bump2
             .ensures))))),
@@ -237,19 +235,19 @@ module _ (t : ℕ) where
       let at = if1 .before in
       let loop = at .before in
       let fail-unless-at = loop .before .before .before in
-      let expect3 = fail-unless-at .before .before .before .before .before in
-      let expect2 = expect3 .before .before .before .before .before in
-      let expr-bp = expect2 .before .before .before .before .before in
-      let expect = expr-bp .before .before .before .before .before in
-      let bump = expect .before .before .before .before in
+      let expected3 = fail-unless-at .before .before .before .before in
+      let expected2 = expected3 .before .before .before .before in
+      let expr-bp = expected2 .before .before .before .before .before in
+      let expected = expr-bp .before .before .before .before in
+      let bump = expected .before .before .before .before in
       let must = bump .before .before .before .before in
       simp (assoc, pick-bind, done-bind)
       (then _ _ _ _ (must .must .ensures)
       (then _ _ _ _ (bump .bump .ensures)
-      (then _ _ _ _ (expect .expect .ensures)
+      (past _ _ _ _ (expected .expected .ensures)
       (then _ _ _ _ (expr-bp .expr-bp .ensures)
-      (then _ _ _ _ (expect2 .expect2 .ensures)
-      (then _ _ _ _ (expect3 .expect3 .ensures)
+      (past _ _ _ _ (expected2 .expected2 .ensures)
+      (past _ _ _ _ (expected3 .expected3 .ensures)
       (then _ _ _ _ (fail-unless-at .fail-unless-at .ensures)
       (then _ _ _ _ (ran-done _ _ _ _ _ _ _ _ (loop .loop .inv .1)
       (see _ _ _ _ (at .at .ensures)
@@ -279,19 +277,19 @@ module _ (t : ℕ) where
       let at = if1 .before in
       let loop = at .before in
       let fail-unless-at = loop .before .before .before in
-      let expect3 = fail-unless-at .before .before .before .before .before in
-      let expect2 = expect3 .before .before .before .before .before in
-      let expr-bp = expect2 .before .before .before .before .before in
-      let expect = expr-bp .before .before .before .before .before in
-      let bump = expect .before .before .before .before in
+      let expected3 = fail-unless-at .before .before .before .before in
+      let expected2 = expected3 .before .before .before .before in
+      let expr-bp = expected2 .before .before .before .before .before in
+      let expected = expr-bp .before .before .before .before in
+      let bump = expected .before .before .before .before in
       let must = bump .before .before .before .before in
       simp (assoc, pick-bind, done-bind)
       (then _ _ _ _ (must .must .ensures)
       (then _ _ _ _ (bump .bump .ensures)
-      (then _ _ _ _ (expect .expect .ensures)
+      (past _ _ _ _ (expected .expected .ensures)
       (then _ _ _ _ (expr-bp .expr-bp .ensures)
-      (then _ _ _ _ (expect2 .expect2 .ensures)
-      (then _ _ _ _ (expect3 .expect3 .ensures)
+      (past _ _ _ _ (expected2 .expected2 .ensures)
+      (past _ _ _ _ (expected3 .expected3 .ensures)
       (then _ _ _ _ (fail-unless-at .fail-unless-at .ensures)
       (then _ _ _ _ (ran-done _ _ _ _ _ _ _ _ (loop .loop .inv .1)
       (see _ _ _ _ (at .at .ensures)

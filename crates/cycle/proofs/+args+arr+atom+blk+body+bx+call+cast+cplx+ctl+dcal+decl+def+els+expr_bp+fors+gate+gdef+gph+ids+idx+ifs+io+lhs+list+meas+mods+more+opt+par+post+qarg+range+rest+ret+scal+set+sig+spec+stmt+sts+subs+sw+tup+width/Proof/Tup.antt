@@ -2,6 +2,7 @@
 -- `tup`.
 use borrow.Author.Needs.{needs}
 use Rattle.runtime.proofs.Laws.{then, step, go, ends, Ran, ran-none, ran-more, ran-done, spent-does, falls, left-goes}
+use Rattle.grammar.proofs.Laws.{past}
 use native.Mathlib.Nat.{lt-of-le-of-lt}
 use native.Mathlib.Omega.{arith}
 use lib.ListN.{length}
@@ -17,7 +18,7 @@ use Rattle.grammar.specs.Atom as A
 use Rattle.grammar.proofs.atom.tuple_comma.Reads as tuple-comma-reads
 use Rattle.grammar.proofs.atom.tuple_end.Reads as tuple-end-reads
 use Rattle.grammar.proofs.atom.tuple_next.Reads as tuple-next-reads
-use Rattle.runtime.proofs.parser.Parser.expect.Reads as expect-reads
+use Rattle.grammar.proofs.expected.Reads as expected-reads
 use Rattle.runtime.proofs.parser.Parser.goes_on.Reads as goes-on-reads
 use Rattle.runtime.proofs.parser.Parser.must.Reads as must-reads
 use Rattle.runtime.proofs.parser.Parser.start.Reads as start-reads
@@ -36,8 +37,8 @@ calls t = (
   must-reads.Learnt,
   start-reads.Asked,
   start-reads.Learnt,
-  expect-reads.Asked,
-  expect-reads.Learnt,
+  expected-reads.Asked,
+  expected-reads.Learnt,
   tuple-comma-reads.Asked,
   tuple-comma-reads.Learnt,
   goes-on-reads.Asked,
@@ -64,19 +65,19 @@ module _ (t : ℕ) where
   abbrev entry-must : Here lts.After-must → Here lts.Start
   entry-must c = c .before .before .before .before .before
 
-  abbrev entry-expect : Here lts.After-expect → Here lts.Start
-  entry-expect c = entry-must (c .before .before .before .before .before .before .before .before .before)
+  abbrev entry-p2 : Here lts.After-p2 → Here lts.Start
+  entry-p2 c = entry-must (c .before .before .before .before .before .before .before)
 
   abbrev entry-loop : Here lts.At-loop → Here lts.Start
-  entry-loop c = entry-expect (c .before .before .before .before .before .before .before .before .before)
+  entry-loop c = entry-p2 (c .before .before .before .before .before .before .before .before .before .before)
 
   kept-loop : (c : Here lts.At-loop) → length (c .loop .room) ≡ length (entry-loop c .args .room .now)
   kept-loop c =
       let tuple-comma = c .before .before .before .before in
-      let expect = tuple-comma .before .before .before .before .before in
-      let start = expect .before .before .before .before .before in
+      let expected = tuple-comma .before .before .before .before in
+      let start = expected .before .before .before .before .before in
       let must = start .before .before .before .before in
-      c .loop .inv .0 ∙ tuple-comma .tuple-comma .kept .1 .1 .0 ∙ expect .expect .kept .1 .1 .1 .0 ∙ start .start .kept .1 .0 ∙
+      c .loop .inv .0 ∙ tuple-comma .tuple-comma .kept .1 .1 .0 ∙ expected .expected .kept .1 .1 .0 ∙ start .start .kept .1 .0 ∙
       must .must .kept .1 .1 .1 .0
 
   pub must-requires : Here lts.Need-must-requires
@@ -85,11 +86,11 @@ module _ (t : ℕ) where
   pub start-requires : Here lts.Need-start-requires
   start-requires c κs = c .before .before .before .must .ensures .fit
 
-  pub expect-requires : Here lts.Need-expect-requires
-  expect-requires c κs = c .before .before .before .before .start .ensures .fit
+  pub expected-requires : Here lts.Need-expected-requires
+  expected-requires c κs = c .before .before .before .before .start .ensures .fit
 
   pub tuple-comma-requires : Here lts.Need-tuple-comma-requires
-  tuple-comma-requires c κs = c .before .before .before .before .expect .ensures .fit
+  tuple-comma-requires c κs = c .before .before .before .expected .ensures .fit
 
   pub loop-holds : Here lts.Need-loop-holds
   loop-holds c = (refl, ran-none _ _ _ _ (c .before .before .before .tuple-comma .ensures .fit))
@@ -133,12 +134,12 @@ module _ (t : ℕ) where
       let goes-on = if1 .before in
       let loop = goes-on .before in
       let tuple-comma = loop .before .before .before .before in
-      let expect = tuple-comma .before .before .before .before .before in
-      let start = expect .before .before .before .before .before in
+      let expected = tuple-comma .before .before .before .before in
+      let start = expected .before .before .before .before .before in
       let must = start .before .before .before .before in
       then _ _ _ _ (must .must .ensures)
       (step _ _ _ _ (start .start .ensures)
-      (then _ _ _ _ (expect .expect .ensures)
+      (past _ _ _ _ (expected .expected .ensures)
       (then _ _ _ _ (tuple-comma .tuple-comma .ensures)
       (then _ _ _ _ (ran-done _ _ _ _ _ _ _ _ (loop .loop .inv .1)
       (go _ _ _ _ (goes-on .goes-on .ensures)
@@ -199,12 +200,12 @@ module _ (t : ℕ) where
       let goes-on = if1 .before in
       let loop = goes-on .before in
       let tuple-comma = loop .before .before .before .before in
-      let expect = tuple-comma .before .before .before .before .before in
-      let start = expect .before .before .before .before .before in
+      let expected = tuple-comma .before .before .before .before in
+      let start = expected .before .before .before .before .before in
       let must = start .before .before .before .before in
       then _ _ _ _ (must .must .ensures)
       (step _ _ _ _ (start .start .ensures)
-      (then _ _ _ _ (expect .expect .ensures)
+      (past _ _ _ _ (expected .expected .ensures)
       (then _ _ _ _ (tuple-comma .tuple-comma .ensures)
       (then _ _ _ _ (ran-done _ _ _ _ _ _ _ _ (loop .loop .inv .1)
       (go _ _ _ _ (goes-on .goes-on .ensures)
