@@ -406,13 +406,13 @@ class Names:
             for a, b in zip(w, w[1:] + [None]):
                 self.after[a] = b
         # no entry is further from the next than a path that is written out
-        todo = [p for p in self.entries | self.keeps if len(self.way(p)) - 1 > FAR]
+        todo = sorted(p for p in self.entries | self.keeps if len(self.way(p)) - 1 > FAR)
+        self.entries |= set(todo)
         while todo:
-            p = todo.pop()
-            self.entries.add(p)
-            w = self.way(p)
+            w = self.way(todo.pop())
             if len(w) - 1 > FAR and not any(q in self.entries for q in w[1:FAR + 1]):
-                todo += [next((q for q in reversed(w[1:FAR + 1]) if known(q)), w[FAR])]
+                todo.append(next((q for q in reversed(w[1:FAR + 1]) if known(q)), w[FAR]))
+                self.entries.add(todo[-1])
         defs = []
         for p in sorted(self.entries | self.keeps, key=lambda p: (len(self.way(p)), p)):
             if p in self.entries:

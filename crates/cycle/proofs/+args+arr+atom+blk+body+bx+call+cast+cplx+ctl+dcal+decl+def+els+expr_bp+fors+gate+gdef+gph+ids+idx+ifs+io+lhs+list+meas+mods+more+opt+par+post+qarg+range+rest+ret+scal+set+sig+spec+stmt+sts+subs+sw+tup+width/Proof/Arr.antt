@@ -58,14 +58,11 @@ module _ (t : ℕ) where
   abbrev Here : (lts.Claims → In 3 kinds.ps → Out 3 kinds.ps kinds.r → lts.InvT-loop → lts.MeasureT-loop → Type 0) → Type 0
   Here X = X (calls t) (arr-at t) arr.Post Inv-loop μ-loop
 
-  abbrev entry-must : Here lts.After-must → Here lts.Start
-  entry-must c = c .before .before .before .before .before
-
-  abbrev entry-p2 : Here lts.After-p2 → Here lts.Start
-  entry-p2 c = entry-must (c .before .before .before .before .before .before .before)
+  abbrev entry-start : Here lts.After-start → Here lts.Start
+  entry-start c = c .before .before .before .before .before .before .before .before .before
 
   abbrev entry-loop : Here lts.At-loop → Here lts.Start
-  entry-loop c = entry-p2 (c .before .before .before .before .before)
+  entry-loop c = entry-start (c .before .before .before .before .before .before .before .before)
 
   kept-loop : (c : Here lts.At-loop) → length (c .loop .room) ≡ length (entry-loop c .args .room .now)
   kept-loop c =

@@ -79,14 +79,14 @@ module _ (t : ℕ) where
   abbrev entry-struct-known : Here lts.After-struct-known → Here lts.Start
   entry-struct-known c = entry-spec (c .before .before .before .before .before)
 
+  abbrev entry-if1-left : Here lts.Else1 → Here lts.Start
+  entry-if1-left c = entry-struct-known (c .before)
+
   abbrev entry-expr-bp : Here lts.After-expr-bp → Here lts.Start
   entry-expr-bp c = entry-struct-known (c .before .before .before .before .before .before .before)
 
-  abbrev entry-var-name : Here lts.After-var-name → Here lts.Start
-  entry-var-name c = entry-struct-known (c .before .before .before .before .before .before .before)
-
   abbrev entry-eat2 : Here lts.After-eat2 → Here lts.Start
-  entry-eat2 c = entry-var-name (c .before .before .before .before)
+  entry-eat2 c = entry-if1-left (c .before .before .before .before .before .before .before .before .before .before)
 
   kept-eat2 : (c : Here lts.After-eat2) → length (c .eat2 .last .1 .1 .1 .0) ≡ length (entry-eat2 c .args .room .now)
   kept-eat2 c =

@@ -89,11 +89,8 @@ module _ (t : ℕ) where
   kept-lhs : (c : Here lts.After-lhs) → length (c .lhs .last .1 .1 .0) ≡ length (entry-lhs c .args .room .now)
   kept-lhs c = c .lhs .kept .1 .1 .0 ∙ c .before .before .before .before .before .before .before .before .marker .kept .0
 
-  abbrev entry-p5 : Here lts.After-p5 → Here lts.Start
-  entry-p5 c = entry-lhs (c .before .before .before)
-
   abbrev entry-extend-to : Here lts.After-extend-to → Here lts.Start
-  entry-extend-to c = entry-p5 (c .before .before .before .before .before)
+  entry-extend-to c = entry-lhs (c .before .before .before .before .before .before .before .before)
 
   kept-extend-to : (c : Here lts.After-extend-to) → length (c .extend-to .last .1 .0) ≡ length (entry-extend-to c .args .room .now)
   kept-extend-to c = c .extend-to .kept .1 .0 ∙ kept-lhs (c .before .before .before .before .before .before .before .before)

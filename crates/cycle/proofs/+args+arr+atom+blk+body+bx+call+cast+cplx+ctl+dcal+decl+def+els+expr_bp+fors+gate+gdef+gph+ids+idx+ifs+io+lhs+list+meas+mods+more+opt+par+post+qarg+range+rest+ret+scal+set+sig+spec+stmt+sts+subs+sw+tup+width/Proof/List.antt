@@ -75,11 +75,8 @@ module _ (t : ℕ) where
       .before) .args .room .now)
   kept-loop c = c .loop .inv .0 ∙ c .before .before .before .before .list-open .kept .1 .1 .0
 
-  abbrev entry-if1-taken : Here lts.Then1 → Here lts.Start
-  entry-if1-taken c = entry-shape-of (c .before .before .before .before .before .before .before .before)
-
   abbrev entry-start : Here lts.After-start → Here lts.Start
-  entry-start c = entry-if1-taken (c .before .before)
+  entry-start c = entry-shape-of (c .before .before .before .before .before .before .before .before .before .before)
 
   kept-start : (c : Here lts.After-start) → length (c .start .last .1 .0) ≡ length (entry-start c .args .room .now)
   kept-start c = c .start .kept .1 .0 ∙ kept-loop (c .before .before .before .before)

@@ -55,14 +55,11 @@ module _ (t : ℕ) where
   abbrev Here : (lts.Claims → In 3 kinds.ps → Out 3 kinds.ps kinds.r → Type 0) → Type 0
   Here X = X (calls t) (sig-at t) sig.Post
 
-  abbrev entry-at : Here lts.After-at → Here lts.Start
-  entry-at c = c .before .before .before .before
-
-  abbrev entry-bump : Here lts.After-bump → Here lts.Start
-  entry-bump c = entry-at (c .before .before .before .before .before .before .before .before)
+  abbrev entry-start : Here lts.After-start → Here lts.Start
+  entry-start c = c .before .before .before .before .before .before .before
 
   abbrev entry-scalar-return : Here lts.After-scalar-return → Here lts.Start
-  entry-scalar-return c = entry-bump (c .before .before .before .before)
+  entry-scalar-return c = entry-start (c .before .before .before .before .before .before .before .before .before)
 
   kept-scalar-return : (c : Here lts.After-scalar-return) → length (c .scalar-return .last .1 .1 .0) ≡ length (entry-scalar-return
       c .args .room .now)
@@ -81,7 +78,7 @@ module _ (t : ℕ) where
   at-requires c κs = c .before .before .before .pre .1
 
   pub start-requires : Here lts.Need-start-requires
-  start-requires c κs = entry-at (c .before .before) .pre .1
+  start-requires c κs = c .before .before .before .before .before .before .pre .1
 
   pub bump-requires : Here lts.Need-bump-requires
   bump-requires c κs = c .before .before .before .before .start .ensures .fit
@@ -196,7 +193,11 @@ module _ (t : ℕ) where
       (any _ _ _ (completed3 .completed3 .ensures)))))))))))
 
   pub body-requires-3 : Here lts.Need-body-requires-3
-  body-requires-3 c κs = (omega (arith, entry-at (c .before .before) .pre .0), entry-at (c .before .before) .pre .1)
+  body-requires-3 c κs = (
+    omega (arith, c .before .before .before .before .before .before .pre .0),
+    c .before .before .before
+        .before .before .before .pre .1,
+  )
 
   pub completed-requires-4 : Here lts.Need-completed-requires-4
   completed-requires-4 c κs = c .before .before .before .body3 .ensures .fit
