@@ -60,7 +60,8 @@ enum { OQ3_MODE_CRATE = 0, OQ3_MODE_SPECIFICATION = 1 };
 enum {
     OQ3_MOST_TOKENS = 8192,
     OQ3_MOST_EVENTS = 65536,
-    OQ3_MOST_ROOM = 131072,      /* words of the largest event room: two for each event */
+    OQ3_EVENT_WORDS = 2,         /* words of one event */
+    OQ3_MOST_ROOM = OQ3_EVENT_WORDS * OQ3_MOST_EVENTS, /* words of the largest event room */
     OQ3_MOST_STEPS = 524288,     /* bytes of the longest step file: eight for each event */
     OQ3_STACK = 262144           /* bytes of stack that are enough for any call, on x86-64 */
 };
@@ -74,6 +75,9 @@ enum {
 /* The least number of joint words for so many tokens. */
 #define OQ3_JOINT_WORDS(tokens) (((size_t)(tokens) + 63) / 64)
 
+/* An event room of so many words holds so many events. */
+#define OQ3_ROOM_WORDS(events) (OQ3_EVENT_WORDS * (size_t)(events))
+
 /* A step room of so many bytes is enough for every list of so many events. */
 #define OQ3_STEP_BYTES(events) (8 * (size_t)(events))
 
@@ -85,7 +89,7 @@ enum {
  *   room    the event room, two words for each event, of any contents; an odd last word holds none
  *   answer  at least 3 words: the place, the events and the lookups. A refusal has 0 for the last two. Further words stay
  *
- * Done, the events are the first 2 * answer[1] words of the room, and every word behind them is 0. Refused with 5 to 8 the whole room is 0.
+ * Done, the events are the first OQ3_ROOM_WORDS(answer[1]) words of the room, and every word behind them is 0. Refused with 5 to 8 the whole room is 0.
  * Refused with 1 to 4, 100 or 101 it is untouched.
  *
  * How large a room? No bound by the number of tokens is known. OQ3_MOST_ROOM words are always enough: in a room of that size a 5 means that

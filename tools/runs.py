@@ -332,7 +332,7 @@ def nested(text):
     """whether a definition has a branch that is not the last statement of its block, so that its binds have to be flattened"""
     lines = text.split("\n")
     for i, line in enumerate(lines):
-        b = re.match(r"(\s+)(?:\S+ ← )?(?:pick|when|elim|delimited)\b", line)
+        b = re.match(r"(\s+)(?:\S+ ← )?(?:cond|when|elim|delimited)\b", line)
         if not b:
             continue
         for later in lines[i + 1:]:

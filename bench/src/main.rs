@@ -8,7 +8,7 @@
 //! A SIDE is `crate`, `port` (rooms of the size needed) or `largest` (the largest rooms), with `-both` behind it where the list is resolved
 //! too. Nothing is cleared between two calls by the caller.
 
-use answer::{Entry, Step};
+use answer::{Entry, Ev, Step};
 use differential::{case::Case, generate, rng::Rng};
 use oq3_plain::{entries, Input, TopEntryPoint};
 use std::hint::black_box;
@@ -43,7 +43,7 @@ impl Lent<'_> {
     }
 
     fn resolve(&mut self) -> u32 {
-        let words = 2 * self.answer[1] as usize;
+        let words = Ev::WORDS * self.answer[1] as usize;
         port::resolve(&mut self.room[..words], &mut self.steps, &mut self.answer)
     }
 
@@ -100,7 +100,7 @@ fn agreed(case: &Case) -> (Vec<u8>, usize) {
     let (steps, errors) = file(&entries::input(&case.kinds, &case.joints));
     let mut lent = Lent::new(case, LARGEST, LONGEST);
     assert_eq!(lent.parse(), DONE, "the case is done");
-    let words = 2 * lent.answer[1] as usize;
+    let words = Ev::WORDS * lent.answer[1] as usize;
     assert_eq!(port::check(&lent.room[..words], &mut [0]), DONE, "a list that passes");
     assert_eq!(lent.resolve(), DONE, "it is resolved");
     assert!(lent.steps[..lent.answer[0] as usize] == steps, "the same steps");

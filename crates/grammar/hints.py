@@ -6,7 +6,7 @@ MODULES = [
         "then", "step", "peek", "peeks", "see", "go", "ask", "any", "all", "only", "ends", "Ran", "ran-none", "ran-more", "ran-done",
         "spent-does", "spent-steps", "spent-peeks", "falls", "falls-peeks", "falls-steps", "left-sees", "left-asked", "left-goes",
         "left-told", "left-on", "spends-nth", "spends-bump", "most-left"]),
-    ("Rattle.grammar.proofs.Laws", ["assoc", "pick-bind", "done-bind", "past", "passed", "list-end", "list-go"]),
+    ("Rattle.grammar.proofs.Laws", ["assoc", "cond-bind", "done-bind", "past", "passed", "list-end", "list-go"]),
     ("borrow.Author.Tests", ["ne-eqb", "lt-ltb", "le-ltb", "eq-eqb"]),
     ("native.Mathlib.Nat", ["lt-of-le-of-lt"]),
     ("native.Mathlib.Omega", ["arith"]),
@@ -40,5 +40,5 @@ TOLD = [
     ("(acts.expected ", "past _ _ _ _"),
     ("(acts.completed ", "passed _ _ _ _"),
 ]
-FLAT = "simp (assoc, pick-bind, done-bind)"
+FLAT = "simp (assoc, cond-bind, done-bind)"
 HINTS = {}

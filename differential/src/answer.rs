@@ -100,7 +100,10 @@ pub enum Ev {
 }
 
 impl Ev {
-    pub fn words(self) -> [u32; 2] {
+    /// How many words an event has.
+    pub const WORDS: usize = 2;
+
+    pub fn words(self) -> [u32; Ev::WORDS] {
         match self {
             Ev::Start(kind, distance) => [START + kind as u32, distance],
             Ev::Finish => [FINISH, 0],

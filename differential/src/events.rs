@@ -99,8 +99,8 @@ impl Seen {
             }
             Err((2, _)) => 1,
             Err(_) if words.len() % 2 != 0 => 2,
-            Err((_, at)) if 2 * at == words.len() => 6,
-            Err((_, at)) => match Ev::of(words[2 * at], words[2 * at + 1]) {
+            Err((_, at)) if Ev::WORDS * at == words.len() => 6,
+            Err((_, at)) => match Ev::of(words[Ev::WORDS * at], words[Ev::WORDS * at + 1]) {
                 Some(Ev::Start(..)) => 4,
                 Some(_) => 5,
                 None => 3,
@@ -286,7 +286,7 @@ fn every(length: usize, each: &mut dyn FnMut(&[u32])) {
         [START, 1 << 31],
     ];
     for number in 0..alphabet.len().pow(length as u32) {
-        let (mut rest, mut words) = (number, Vec::with_capacity(2 * length));
+        let (mut rest, mut words) = (number, Vec::with_capacity(Ev::WORDS * length));
         for _ in 0..length {
             words.extend(alphabet[rest % alphabet.len()]);
             rest /= alphabet.len();
@@ -366,7 +366,7 @@ fn limits(rng: &mut Rng) -> Vec<Vec<u32>> {
     .map(|list| words(list))
     .collect();
     // numbers of words, of bare tombstones and of words that are no events
-    for count in [2 * MOST - 1, 2 * MOST + 1, 2 * MOST + 2, 2 * MOST + 3, 200_000] {
+    for count in [Ev::WORDS * MOST - 1, Ev::WORDS * MOST + 1, Ev::WORDS * MOST + 2, Ev::WORDS * MOST + 3, 200_000] {
         all.push((0..count).map(|i| if i % 2 == 0 { START } else { 0 }).collect());
         all.push(vec![7; count]);
     }

@@ -17,7 +17,7 @@ pub fn words(list: &[Ev]) -> Vec<u32> {
 
 /// The list check as the rules have it: the number of events, or the number and place of its refusal.
 pub fn check(words: &[u32]) -> Result<usize, (u8, usize)> {
-    let count = words.len() / 2;
+    let count = words.len() / Ev::WORDS;
     if count > 65_536 {
         return Err((2, 0));
     }
@@ -26,12 +26,12 @@ pub fn check(words: &[u32]) -> Result<usize, (u8, usize)> {
     }
     let mut open = 0usize;
     for i in 0..count {
-        match Ev::of(words[2 * i], words[2 * i + 1]) {
+        match Ev::of(words[Ev::WORDS * i], words[Ev::WORDS * i + 1]) {
             None => return Err((9, i)),
             Some(Ev::Start(kind, distance)) => {
                 if distance != 0 {
                     let to = i + distance as usize;
-                    let lands = to < count && matches!(Ev::of(words[2 * to], words[2 * to + 1]), Some(Ev::Start(..)));
+                    let lands = to < count && matches!(Ev::of(words[Ev::WORDS * to], words[Ev::WORDS * to + 1]), Some(Ev::Start(..)));
                     if !lands {
                         return Err((9, i));
                     }
@@ -189,11 +189,11 @@ pub fn any(rng: &mut Rng, kinds: u16) -> Vec<u32> {
 
 /// One damage: an event taken away, doubled, moved, given another distance, or a word changed.
 fn damage(words: &mut Vec<u32>, rng: &mut Rng, kinds: u16) {
-    let count = words.len() / 2;
+    let count = words.len() / Ev::WORDS;
     if count == 0 {
         return words.push(random_word(rng, kinds));
     }
-    let at = 2 * rng.below(count);
+    let at = Ev::WORDS * rng.below(count);
     match rng.below(6) {
         0 => {
             words.drain(at..at + 2);
@@ -203,7 +203,7 @@ fn damage(words: &mut Vec<u32>, rng: &mut Rng, kinds: u16) {
             words.splice(at..at, pair);
         }
         2 => {
-            let to = 2 * rng.below(count);
+            let to = Ev::WORDS * rng.below(count);
             words.swap(at, to);
             words.swap(at + 1, to + 1);
         }

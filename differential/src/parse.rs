@@ -3,7 +3,7 @@
 
 use crate::lent::Lent;
 use crate::port;
-use answer::{kinds, permitted, read_steps, with_stack, Entry, ENTRIES};
+use answer::{kinds, permitted, read_steps, with_stack, Entry, Ev, ENTRIES};
 use differential::case::{hexes, numbers, Case};
 use differential::replay::{self, LARGEST};
 use differential::rng::Rng;
@@ -262,7 +262,7 @@ fn one(parse: Parse, call: &Call, steps: bool, rng: &mut Rng, seen: &mut Seen) -
             return fault("the steps of its list are not the crate's");
         }
         seen.resolved[call.mode as usize] += 1;
-        seen.most = seen.most.max(words.len() / 2);
+        seen.most = seen.most.max(words.len() / Ev::WORDS);
     }
     Ok(must.code)
 }
@@ -280,9 +280,9 @@ fn compare(parse: Parse, case: &Case, rng: &mut Rng, seen: &mut Seen) -> Result<
     }
     for mode in 0..=1 {
         let peak = if runs { replay::run(case, mode as u64, LARGEST).peak } else { rng.below(20) };
-        let mut rooms = vec![2 * peak + rng.below(2), (2 * peak).saturating_sub(1 + rng.below(2)), rng.below(2 * peak + 4)];
+        let mut rooms = vec![Ev::WORDS * peak + rng.below(2), (Ev::WORDS * peak).saturating_sub(1 + rng.below(2)), rng.below(Ev::WORDS * peak + 4)];
         if mode == 0 {
-            rooms.extend([rng.below(4), 2 * peak + 2 + rng.below(60), rng.below(4 * peak + 4)]);
+            rooms.extend([rng.below(4), Ev::WORDS * peak + 2 + rng.below(60), rng.below(4 * peak + 4)]);
         }
         // the largest rooms take their time
         if rng.chance(1, 32) || tokens > 1_000 {
@@ -302,7 +302,7 @@ fn compare(parse: Parse, case: &Case, rng: &mut Rng, seen: &mut Seen) -> Result<
         if let (Some(last), true) = (joints.get_mut(need.wrapping_sub(1)), tokens % 64 != 0) {
             *last ^= rng.next() << (tokens % 64);
         }
-        one(parse, &Call { mode, joints: &joints, room: 2 * peak, ..base }, false, rng, seen)?;
+        one(parse, &Call { mode, joints: &joints, room: Ev::WORDS * peak, ..base }, false, rng, seen)?;
     }
     // refused before the run: a mode, joint words, kinds, an entry, an answer room; one alone and several at once
     let words = |rng: &mut Rng| if rng.chance(1, 8) { 0 } else { rng.below(2 * tokens + 40) };
@@ -481,7 +481,7 @@ fn small_runs() -> bool {
         let (mut room, mut answer) = (vec![7; 1_000], [0; 3]);
         let code = port::parse(2, *mode, &case.kinds, &case.joints, &mut room, &mut answer);
         let (mut bytes, mut place) = (vec![0; 10_000], [0]);
-        let resolved = port::resolve(&mut room[..2 * answer[1] as usize], &mut bytes, &mut place);
+        let resolved = port::resolve(&mut room[..Ev::WORDS * answer[1] as usize], &mut bytes, &mut place);
         let said = text::tree(&read_steps(&bytes[..if resolved == 0 { place[0] as usize } else { 0 }]));
         if ((code, answer[0]), &said) != (*must, tree) {
             println!("differential: the port on {text} in mode {mode}: it says {code} at {} and {said}", answer[0]);

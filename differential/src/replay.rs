@@ -4,7 +4,7 @@
 
 use crate::case::{bytes, list, numbers, Case};
 use crate::{generate, lists, text};
-use answer::{kinds, Bounds, End, Entry, Run, LOOKUPS};
+use answer::{kinds, Bounds, End, Entry, Ev, Run, LOOKUPS};
 
 /// What a parse says: its number, its place, and the run where it is done.
 pub struct Said {
@@ -47,7 +47,7 @@ pub fn parse(case: &Case, mode: u64, room: usize) -> Said {
 
 /// The run of a case that is not refused before it, as it stands where the rules stop it.
 pub fn run(case: &Case, mode: u64, room: usize) -> Run {
-    let bounds = Bounds { room: (room / 2).min(65_536), depth: 64, ..LOOKUPS };
+    let bounds = Bounds { room: (room / Ev::WORDS).min(65_536), depth: 64, ..LOOKUPS };
     let parse = if mode == 0 { oq3_watched::entries::parse } else { oq3_mode1::entries::parse };
     parse(case.entry, &case.kinds, &case.joints, bounds)
 }

@@ -59,9 +59,9 @@ impl Lines {
     /// A parse in a room of the peak, and in one that is an event or a word smaller.
     fn around(&mut self, case: &Case, mode: u32, odd: bool) {
         let peak = peak(case, mode);
-        self.parse(case, mode, 2 * peak + odd as usize);
+        self.parse(case, mode, Ev::WORDS * peak + odd as usize);
         if peak > 0 {
-            self.parse(case, mode, 2 * peak - 1 - odd as usize);
+            self.parse(case, mode, Ev::WORDS * peak - 1 - odd as usize);
         }
     }
 }
@@ -141,7 +141,7 @@ fn refused_before(lines: &mut Lines) {
     // joint words: one too few, just enough, more, with further bits and words that are ignored
     for (number, size) in [1, 2, 63, 64, 65, 127, 128, 129].into_iter().enumerate() {
         let mut case = many(ENTRIES[number % 3], ";", size);
-        let room = 2 * peak(&case, 0);
+        let room = Ev::WORDS * peak(&case, 0);
         lines.parse(&case, 0, room);
         let last = case.joints.pop().expect("a word");
         lines.parse(&case, 1, room);
@@ -193,7 +193,7 @@ fn nests(lines: &mut Lines) {
     for mode in 0..=1 {
         for signs in [62, 63, 64, 65] {
             let case = Case::of(Entry::Expr, &generate::nest(0, signs, false));
-            lines.parse(&case, mode, 2 * peak(&case, mode));
+            lines.parse(&case, mode, Ev::WORDS * peak(&case, mode));
         }
     }
     for number in 0..generate::nests() {
@@ -201,7 +201,7 @@ fn nests(lines: &mut Lines) {
             let (deep, mode) = (replay::deepest(number, entry), (number % 2) as u32);
             for (deep, cut) in [(deep, false), (deep + 1, false), (deep + 1, true)] {
                 let case = Case::of(entry, &generate::nest(number, deep, cut));
-                let room = 2 * peak(&case, mode);
+                let room = Ev::WORDS * peak(&case, mode);
                 lines.parse(&case, mode, if cut { LARGEST } else { room });
                 if number % 3 == 0 && !cut {
                     lines.parse(&case, mode, room - 1);
@@ -223,7 +223,7 @@ fn random(lines: &mut Lines, rng: &mut Rng) {
         lines.around(&case, mode, rng.chance(1, 2));
         let other = 1 - mode;
         let peak = peak(&case, other);
-        lines.parse(&case, other, if rng.chance(1, 2) { 2 * peak } else { rng.below(4 * peak + 4) });
+        lines.parse(&case, other, if rng.chance(1, 2) { Ev::WORDS * peak } else { rng.below(4 * peak + 4) });
     }
 }
 

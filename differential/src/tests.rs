@@ -353,7 +353,7 @@ fn panics() {
 fn spinning_rooms() {
     for (text, room) in [("array", 10_006), ("array )", 7_508), ("array }", 10_007), ("def f ( 3", 22_508)] {
         let case = case(Item, text);
-        assert_eq!((replay::parse(&case, 0, 2 * room).code, replay::parse(&case, 0, 2 * room - 1).code), (7, 5), "{text}");
+        assert_eq!((replay::parse(&case, 0, Ev::WORDS * room).code, replay::parse(&case, 0, Ev::WORDS * room - 1).code), (7, 5), "{text}");
     }
 }
 

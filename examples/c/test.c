@@ -89,7 +89,7 @@ static void parses(int line, uint32_t entry, uint32_t mode, size_t tokens, size_
     }
     if (!untouched) {
         used = 0;
-        for (i = (size_t)(2 * events); i < words; i++) {
+        for (i = OQ3_ROOM_WORDS(events); i < words; i++) {
             used += room[i] != 0;
         }
         is(line, "words behind the list that are not 0", used, 0);
@@ -219,10 +219,10 @@ int main(void)
     IS(oq3_parse(OQ3_EXPRESSION, OQ3_MODE_SPECIFICATION, kinds, 4, joints, 1, room, 101, answer, 4), OQ3_DONE);
     ended(__LINE__, 101, 0, 3);
     IS(answer[0], 4);
-    for (i = 2 * (size_t)answer[1]; i < 101; i++) {
+    for (i = OQ3_ROOM_WORDS(answer[1]); i < 101; i++) {
         IS(room[i], 0);
     }
-    size_t words = 2 * (size_t)answer[1];
+    size_t words = OQ3_ROOM_WORDS(answer[1]);
     CHECKS(words, 1, OQ3_DONE, words / 2);
     CHECKS(words, 0, OQ3_NO_ANSWER_ROOM, 0);
     CHECKS(words + 1, 1, OQ3_FAULTY_LIST, words / 2);
@@ -329,12 +329,12 @@ int main(void)
     const uint32_t bare[] = { OQ3_EVENT_START, 0 };
     tokens(brace, 1);
     IS(oq3_parse(OQ3_ITEM, 0, kinds, 1, joints, 1, room, 100, answer, 3), OQ3_DONE);
-    RESOLVES(2 * (size_t)answer[1], 1024, 1, OQ3_DONE, 25);
+    RESOLVES(OQ3_ROOM_WORDS(answer[1]), 1024, 1, OQ3_DONE, 25);
     READS(25, 2, OQ3_DONE, 25, 4);
     TAKES(0, 25, 6, OQ3_DONE, 6, OQ3_STEP_ENTER, ERROR, 0);
     tokens(resets, 2);
     IS(oq3_parse(OQ3_ITEM, 0, kinds, 2, joints, 1, room, 100, answer, 3), OQ3_DONE);
-    RESOLVES(2 * (size_t)answer[1], 1024, 1, OQ3_DONE, 40);
+    RESOLVES(OQ3_ROOM_WORDS(answer[1]), 1024, 1, OQ3_DONE, 40);
     READS(40, 2, OQ3_BAD_NESTING, 7, 0);
     list(bare, 2);
     RESOLVES(2, 1024, 1, OQ3_DONE, 0);
@@ -410,7 +410,7 @@ int main(void)
     IS(OQ3_EVENT_FINISH, 131072);
     IS(OQ3_EVENT_TOKEN, 196608);
     IS(OQ3_EVENT_ERROR, 262144);
-    IS(OQ3_MOST_ROOM, 2 * OQ3_MOST_EVENTS);
+    IS(OQ3_MOST_ROOM, OQ3_ROOM_WORDS(OQ3_MOST_EVENTS));
     IS(OQ3_STEP_BYTES(OQ3_MOST_EVENTS), OQ3_MOST_STEPS);
 
     if (!failed) {

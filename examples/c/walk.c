@@ -26,7 +26,7 @@ static const uint16_t kinds[TOKENS] = {
 static const uint64_t joints[OQ3_JOINT_WORDS(TOKENS)] = { 0 };
 
 /* The rooms: static here, so nothing is allocated. */
-static uint32_t room[2 * EVENTS];
+static uint32_t room[OQ3_ROOM_WORDS(EVENTS)];
 static uint8_t steps[OQ3_STEP_BYTES(EVENTS)];
 static uint64_t answer[3];
 
@@ -77,7 +77,7 @@ static long walk(const uint8_t *file, size_t length)
 
 int main(void)
 {
-    uint32_t said = oq3_parse(OQ3_SOURCE_FILE, OQ3_MODE_CRATE, kinds, TOKENS, joints, OQ3_JOINT_WORDS(TOKENS), room, 2 * EVENTS, answer, 3);
+    uint32_t said = oq3_parse(OQ3_SOURCE_FILE, OQ3_MODE_CRATE, kinds, TOKENS, joints, OQ3_JOINT_WORDS(TOKENS), room, OQ3_ROOM_WORDS(EVENTS), answer, 3);
     if (said != OQ3_DONE) {
         printf("the parse is refused with %u at token %lu\n", (unsigned)said, (unsigned long)answer[0]);
         return 1;
@@ -85,7 +85,7 @@ int main(void)
     printf("%lu tokens, %lu events, %lu lookups\n", (unsigned long)answer[0], (unsigned long)answer[1], (unsigned long)answer[2]);
 
     /* The list is the room's first words: two for each event. */
-    size_t words = 2 * (size_t)answer[1];
+    size_t words = OQ3_ROOM_WORDS(answer[1]);
     said = oq3_resolve(room, words, steps, sizeof steps, answer, 3);
     if (said != OQ3_DONE) {
         printf("the resolution is refused with %u\n", (unsigned)said);

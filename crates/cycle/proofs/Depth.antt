@@ -13,8 +13,8 @@ use Rattle.runtime.specs.Input.{Env}
 use Rattle.runtime.specs.State.{St, view, live, looked}
 use Rattle.runtime.specs.Acts as acts
 use Rattle.runtime.specs.Acts.{Acts, Does, Peeks, run, left, nth, at, start, atTs, sees, _>>=_, kindAhead}
-use Rattle.runtime.proofs.Kept.{by-pick}
-use Rattle.runtime.proofs.Laws.{Spends, peeks, spends-nth, spends-at-ts, spends-bump, spends-stop, spends-eat, spends-pick, spends-first, spends-rest, spends-opening, left-unless, left-on, unseen, run-bind}
+use Rattle.laws.proofs.Tests.{by-test}
+use Rattle.runtime.proofs.Laws.{Spends, peeks, spends-nth, spends-at-ts, spends-bump, spends-stop, spends-eat, spends-cond, spends-first, spends-rest, spends-opening, left-unless, left-on, unseen, run-bind}
 use Rattle.grammar.specs.declared.Mark.{Mark}
 use Rattle.grammar.specs.declared.Got.{Got}
 use Rattle.grammar.specs.declared.expressions.Op.{Op}
@@ -74,7 +74,7 @@ unfolding counted E.stmt E.letStmt I.optItem
 stmt-spends ops zero = spends-stop Deep acts.Acts.done
 stmt-spends ops (suc n) =
     spends-eat SEMICOLON _
-    (spends-rest (at LET-KW) _ (λ b. spends-pick b _ _
+    (spends-rest (at LET-KW) _ (λ b. spends-cond b _ _
     (spends-rest start _ (λ m. spends-first _ _ (spends-bump LET-KW)))
     (spends-rest start _ (λ m. spends-first _ _ (spends-first (nth 1) _ (spends-nth 1))))))
 
@@ -141,4 +141,4 @@ left-list e p sh h = left-on e p (by (sees e p EOF) refl)
 -- no more than this is ever left
 pub left-bound : (p : Parser) → left p < 81938195
 unfolding left
-left-bound p = by-pick (λ (n : ℕ). n < 81938195) (live p) _ 0 (λ q. omega arith) (λ q. omega arith)
+left-bound p = by-test (λ (n : ℕ). n < 81938195) (live p) _ 0 (λ q. omega arith) (λ q. omega arith)

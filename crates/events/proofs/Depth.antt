@@ -8,8 +8,8 @@ use mathlib.Core.Bool.{true}
 use mathlib.Core.List.{List, [], _∷_, _++_, append-assoc, map-append}
 use lib.ListN.{length}
 use borrow.Author.Tests.{ne-eqb}
-use Rattle.events.specs.declared.event.Event.{Event}
-use Rattle.events.specs.declared.event.Event.the-variants.{Start, Finish, Token, Error, NoEvent}
+use Rattle.event.specs.declared.Event.{Event}
+use Rattle.event.specs.declared.Event.the-variants.{Start, Finish, Token, Error, NoEvent}
 use Rattle.records.specs.declared.Step.{Step}
 use Rattle.events.specs.Answer.{says}
 use Rattle.events.specs.Check.{lands, next, onNext, scan}
@@ -50,7 +50,7 @@ keep Finish es l i zero m ih ll h = absurd (omega arith)
 keep Finish es l i (suc o) m ih ll h = let z : suc o + m ≡ suc (o + m) = omega arith in rw z (ih o h)
 keep (Token k n) es l i o m ih ll h = ih o h
 keep (Error c x) es l i o m ih ll h = ih o h
-keep NoEvent es l i o m ih ll h = absurd (omega arith)
+keep (NoEvent a b) es l i o m ih ll h = absurd (omega arith)
 
 visited : (p k f : ℕ) (es : List Event) (i o : ℕ)
     → ((j q : ℕ) → scan es j q .code ≡ 0 → scan (follow (suc p) es f .left) j (q + count (follow (suc p) es f .parents)) .code ≡ 0)
@@ -71,7 +71,7 @@ scan-follow p (Start k f ∷ es) (suc zero) i o h = visited p k f es i o (λ j q
 scan-follow p (Finish ∷ es) (suc zero) i o h = rw add-zero h
 scan-follow p (Token k n ∷ es) (suc zero) i o h = rw add-zero h
 scan-follow p (Error c x ∷ es) (suc zero) i o h = rw add-zero h
-scan-follow p (NoEvent ∷ es) (suc zero) i o h = rw add-zero h
+scan-follow p (NoEvent a b ∷ es) (suc zero) i o h = rw add-zero h
 scan-follow p (e ∷ es) (suc (suc d)) i o h =
     keep e es (follow (suc p) es (suc d) .left) i o (count (follow (suc p) es (suc d) .parents)) (λ q. scan-follow (suc p) es (suc d) (suc i) q) (lands-follow (suc p) es (suc d)) h
 
@@ -90,7 +90,7 @@ closes-turn p Finish es i zero ss ih h = absurd (omega arith)
 closes-turn p Finish es i (suc o) ss ih h = ih o h
 closes-turn p (Token k n) es i o ss ih h = ih o h
 closes-turn p (Error c x) es i o ss ih h = ih o h
-closes-turn p NoEvent es i o ss ih h = absurd (omega arith)
+closes-turn p (NoEvent a b) es i o ss ih h = absurd (omega arith)
 
 pub closes-turns : (n p : ℕ) (es : List Event) (i o : ℕ) → length es ≡ n → scan es i o .code ≡ 0 → closes o (stepsOf (turns n p es .steps)) ≡ true
 unfolding turns scan closes

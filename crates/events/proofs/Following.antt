@@ -7,11 +7,11 @@ use mathlib.Core.Bool.{true, false, true≢false}
 use mathlib.Core.List.{List, [], _∷_, _++_, append-assoc}
 use lib.ListN.{length, getD, take, drop, set, length-set, length-append, length-drop, take-append-drop}
 use lib.Seq.{getD-drop, drop-drop, take-add, drop-set-lt, take-suc-set}
-use Rattle.events.specs.declared.event.Event.{Event}
-use Rattle.events.specs.declared.event.Event.the-variants.{Start, Finish, Token, Error, NoEvent}
+use Rattle.event.specs.declared.Event.{Event}
+use Rattle.event.specs.declared.Event.the-variants.{Start, Finish, Token, Error, NoEvent}
+use Rattle.event.specs.Event.{tombstone, isStart, distance}
 use Rattle.records.specs.declared.Step.{Step}
-use Rattle.events.specs.Event.{tombstone, isStart, distance}
-use Rattle.records.specs.Record.{bytes, over, Wrote}
+use Rattle.records.specs.Record.{stepBytes, bytes, over, Wrote}
 use Rattle.events.specs.Process.{placed, Followed, follow, enters, entered, chain, stepsOf, file}
 use Rattle.events.specs.Shape.{own, cost}
 use Rattle.records.proofs.Writes.{over-none, over-back, length-over}
@@ -35,13 +35,13 @@ entered-file p k f = rw (file-append, steps-placed)
 -- one hop over d events to a start, where `process` does not panic
 pub record Hop (p : ℕ) (es : List Event) (d : ℕ) (f r : Followed) : Type 0 where
   pub inside : d < length es
-  pub here : file (entered (f .parents)) ≡ file (entered (r .parents)) ++ bytes (own (getD es d NoEvent))
+  pub here : file (entered (f .parents)) ≡ file (entered (r .parents)) ++ bytes (own (getD es d (NoEvent 0 0)))
   pub left : f .left ≡ take d es ++ tombstone ∷ r .left
   pub sound : r .panics ≡ false
-  pub start : isStart (getD es d NoEvent) ≡ true
+  pub start : isStart (getD es d (NoEvent 0 0)) ≡ true
 
 pub hop : (p : ℕ) (es : List Event) (d : ℕ) → follow p es (suc d) .panics ≡ false
-    → Hop p es d (follow p es (suc d)) (follow (suc p + d) (drop (suc d) es) (distance (getD es d NoEvent)))
+    → Hop p es d (follow p es (suc d)) (follow (suc p + d) (drop (suc d) es) (distance (getD es d (NoEvent 0 0))))
 unfolding follow
 hop p [] d s = absurd (true≢false s)
 hop p (Start k f ∷ es) zero s =
@@ -50,7 +50,7 @@ hop p (Start k f ∷ es) zero s =
 hop p (Finish ∷ es) zero s = absurd (true≢false s)
 hop p (Token k n ∷ es) zero s = absurd (true≢false s)
 hop p (Error c x ∷ es) zero s = absurd (true≢false s)
-hop p (NoEvent ∷ es) zero s = absurd (true≢false s)
+hop p (NoEvent a b ∷ es) zero s = absurd (true≢false s)
 hop p (e ∷ es) (suc d) s =
     let h = hop (suc p) es d s in
     let z : suc p + suc d ≡ suc (suc p) + d = omega arith in
@@ -66,10 +66,10 @@ cleared es p q = take (suc p) es ++ chain es p q .left
 -- the same hop, in a list, from event p by q
 pub record Hops (es : List Event) (p q : ℕ) : Type 0 where
   pub inside : p + q < length es
-  pub here : pending es p q ≡ pending es (p + q) (distance (getD es (p + q) NoEvent)) ++ bytes (own (getD es (p + q) NoEvent))
-  pub left : cleared es p q ≡ take (p + q) es ++ tombstone ∷ chain es (p + q) (distance (getD es (p + q) NoEvent)) .left
-  pub sound : chain es (p + q) (distance (getD es (p + q) NoEvent)) .panics ≡ false
-  pub start : isStart (getD es (p + q) NoEvent) ≡ true
+  pub here : pending es p q ≡ pending es (p + q) (distance (getD es (p + q) (NoEvent 0 0))) ++ bytes (own (getD es (p + q) (NoEvent 0 0)))
+  pub left : cleared es p q ≡ take (p + q) es ++ tombstone ∷ chain es (p + q) (distance (getD es (p + q) (NoEvent 0 0))) .left
+  pub sound : chain es (p + q) (distance (getD es (p + q) (NoEvent 0 0))) .panics ≡ false
+  pub start : isStart (getD es (p + q) (NoEvent 0 0)) ≡ true
 
 pub hops : (es : List Event) (p q : ℕ) → p < length es → (q ≡ 0 → ⊥) → chain es p q .panics ≡ false → Hops es p q
 hops es p zero h n s = absurd (n refl)
@@ -78,7 +78,7 @@ hops es p (suc d) h n s =
     let e₁ : suc p + d ≡ p + suc d = omega arith in
     let e₂ : suc p + suc d ≡ suc (p + suc d) = omega arith in
     let e₃ : suc (suc p) + d ≡ suc (p + suc d) = omega arith in
-    let same : getD (drop (suc p) es) d NoEvent ≡ getD es (p + suc d) NoEvent = rw (getD-drop, e₁) in
+    let same : getD (drop (suc p) es) d (NoEvent 0 0) ≡ getD es (p + suc d) (NoEvent 0 0) = rw (getD-drop, e₁) in
     let rest : drop (suc d) (drop (suc p) es) ≡ drop (suc (p + suc d)) es = rw (drop-drop, e₂) in
     record {
       inside = omega (arith, r .inside, length-drop (suc p) es);
@@ -106,21 +106,21 @@ cleared-none es p q z = rw (z, follow-none) (take-append-drop (suc p) es)
 pub record Sizing (es : List Event) (i d p q size : ℕ) : Type 0 where
   pub inside : p < length es
   pub sound : chain es p q .panics ≡ false
-  pub small : size ≤ 8 * p
+  pub small : size ≤ stepBytes * p
   pub sum : size + length (pending es p q) ≡ length (pending es i d)
 
 module _ (es : List Event) (i d p q size : ℕ) (S : Sizing es i d p q size) where
   pub hops-on : (q ≡ 0 → ⊥) → Hops es p q
   hops-on n = hops es p q (S .inside) n (S .sound)
 
-  pub size-on : (q ≡ 0 → ⊥) → (q′ c : ℕ) → q′ ≡ distance (getD es (p + q) NoEvent) → c ≡ cost (getD es (p + q) NoEvent) → Sizing es i d (p + q) q′ (size + c)
+  pub size-on : (q ≡ 0 → ⊥) → (q′ c : ℕ) → q′ ≡ distance (getD es (p + q) (NoEvent 0 0)) → c ≡ cost (getD es (p + q) (NoEvent 0 0)) → Sizing es i d (p + q) q′ (size + c)
   size-on n q′ c sq sc =
       let h = hops-on n in
       rw sq
       (record {
         inside = h .inside;
         sound = h .sound;
-        small = omega (arith, S .small, cost-le (getD es (p + q) NoEvent));
+        small = omega (arith, S .small, cost-le (getD es (p + q) (NoEvent 0 0)));
         sum = omega (arith, S .sum, simp length-append at (ap length (h .here)));
       })
 
@@ -147,17 +147,17 @@ module _ (w : List Event) (o : List ℕ) (i d at : ℕ) where
     next n = hops es p q (W .inside) n (W .sound)
 
     -- the room for the next start
-    pub next-room : (q ≡ 0 → ⊥) → cost (getD es (p + q) NoEvent) ≤ end
+    pub next-room : (q ≡ 0 → ⊥) → cost (getD es (p + q) (NoEvent 0 0)) ≤ end
     next-room n = omega (arith, W .ends, simp length-append at (ap length (next n .here)))
 
     pub onward : (q ≡ 0 → ⊥) → (es′ : List Event) (out′ : List ℕ) (q′ end′ r : ℕ)
         → es′ ≡ set es (p + q) tombstone
-        → end′ + cost (getD es (p + q) NoEvent) ≡ end
-        → Wrote out end′ (bytes (own (getD es (p + q) NoEvent))) r out′
-        → q′ ≡ distance (getD es (p + q) NoEvent)
+        → end′ + cost (getD es (p + q) (NoEvent 0 0)) ≡ end
+        → Wrote out end′ (bytes (own (getD es (p + q) (NoEvent 0 0)))) r out′
+        → q′ ≡ distance (getD es (p + q) (NoEvent 0 0))
         → Writing w o i d at es′ out′ (p + q) q′ end′
     onward n es′ out′ q′ end′ r se ss so sq =
-        let e : Event = getD es (p + q) NoEvent in
+        let e : Event = getD es (p + q) (NoEvent 0 0) in
         let h = next n in
         let v : List ℕ = pending es (p + q) (distance e) in
         let k : List ℕ = bytes (own e) in

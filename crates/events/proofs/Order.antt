@@ -7,13 +7,13 @@ use mathlib.Core.Bool.{Bool, true, false, cond}
 use mathlib.Core.List.{List, [], _∷_, _++_}
 use lib.Dec.{eqb}
 use lib.ListN.{length}
-use Rattle.events.specs.declared.event.Event.{Event}
-use Rattle.events.specs.declared.event.Event.the-variants.{Start, Finish, Token, Error, NoEvent}
+use Rattle.event.specs.declared.Event.{Event}
+use Rattle.event.specs.declared.Event.the-variants.{Start, Finish, Token, Error, NoEvent}
+use Rattle.laws.proofs.Tests.{by-test}
 use Rattle.records.specs.declared.Step.{Step}
 use Rattle.records.specs.declared.Step.the-variants.{Enter as enter}
 use Rattle.events.specs.Process.{Placed, placed, Parent, follow, enters, entered, turn, turns, process}
 use Rattle.events.specs.Shape.{isEnter, others, plain}
-use Rattle.records.proofs.Tests.{by-test}
 use Rattle.events.proofs.Running.{length-turn}
 
 others-append : (r s : List Placed) → others (r ++ s) ≡ others r ++ others s
@@ -43,7 +43,7 @@ plain-follow p (Start k f ∷ es) (suc zero) = plain-follow (suc p) es f
 plain-follow p (Finish ∷ es) (suc zero) = refl
 plain-follow p (Token k n ∷ es) (suc zero) = refl
 plain-follow p (Error c x ∷ es) (suc zero) = refl
-plain-follow p (NoEvent ∷ es) (suc zero) = refl
+plain-follow p (NoEvent a b ∷ es) (suc zero) = refl
 plain-follow p (e ∷ es) (suc (suc d)) = rw (plain-follow (suc p) es (suc d))
 
 plain-turn : (p : ℕ) (e : Event) (es : List Event) → others (turn p e es .steps) ++ plain (suc p) (turn p e es .left) ≡ plain p (e ∷ es)
@@ -52,7 +52,7 @@ plain-turn p (Start k d) es = rw others-entered (plain-follow (suc p) es d)
 plain-turn p Finish es = refl
 plain-turn p (Token k n) es = refl
 plain-turn p (Error c x) es = refl
-plain-turn p NoEvent es = refl
+plain-turn p (NoEvent a b) es = refl
 
 plain-turns : (n p : ℕ) (es : List Event) → length es ≡ n → others (turns n p es .steps) ≡ plain p es
 unfolding turns others plain

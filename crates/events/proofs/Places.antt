@@ -9,8 +9,8 @@ use mathlib.Core.List.{List, [], _∷_, _++_, append-nil, map-append}
 use lib.Dec.{eqb}
 use lib.ListN.{length, getD}
 use borrow.Author.Tests.{eq-eqb, ne-eqb, eqb-true, eqb-false}
-use Rattle.events.specs.declared.event.Event.{Event}
-use Rattle.events.specs.declared.event.Event.the-variants.{Start, Finish, Token, Error, NoEvent}
+use Rattle.event.specs.declared.Event.{Event}
+use Rattle.event.specs.declared.Event.the-variants.{Start, Finish, Token, Error, NoEvent}
 use Rattle.records.specs.declared.Step.{Step}
 use Rattle.records.specs.declared.Step.the-variants.{Enter as enter, Leave as leave, Token as token, Error as error}
 use Rattle.events.specs.Process.{Placed, placed, Parent, follow, enters, entered, turn, turns, process, stepsOf}
@@ -48,7 +48,7 @@ from-behind i p (Start k f ∷ es) (suc zero) h =
 from-behind i p (Finish ∷ es) (suc zero) h = refl
 from-behind i p (Token k n ∷ es) (suc zero) h = refl
 from-behind i p (Error c x ∷ es) (suc zero) h = refl
-from-behind i p (NoEvent ∷ es) (suc zero) h = refl
+from-behind i p (NoEvent a b ∷ es) (suc zero) h = refl
 from-behind i p (e ∷ es) (suc (suc d)) h = from-behind i (suc p) es (suc d) (omega arith)
 
 -- what event i asks for itself, in a list whose first has place p
@@ -61,7 +61,7 @@ unfolding asked
 asked-past i p [] h = refl
 asked-past i p (e ∷ es) h = rw (ne-eqb p i (λ q. omega arith)) (asked-past i (suc p) es (omega arith))
 
-asked-at : (p : ℕ) (es : List Event) (j : ℕ) → asked (p + j) p es ≡ own (getD es j NoEvent)
+asked-at : (p : ℕ) (es : List Event) (j : ℕ) → asked (p + j) p es ≡ own (getD es j (NoEvent 0 0))
 unfolding asked
 asked-at p [] j = refl
 asked-at p (e ∷ es) zero = rw (add-zero, eq-eqb p p refl)
@@ -89,7 +89,7 @@ asked-follow i p (Start k f ∷ es) (suc zero) = go (eqb p i) refl (asked-follow
 asked-follow i p (Finish ∷ es) (suc zero) = refl
 asked-follow i p (Token k n ∷ es) (suc zero) = refl
 asked-follow i p (Error c x ∷ es) (suc zero) = refl
-asked-follow i p (NoEvent ∷ es) (suc zero) = refl
+asked-follow i p (NoEvent a b ∷ es) (suc zero) = refl
 asked-follow i p (e ∷ es) (suc (suc d)) = go (eqb p i) refl (asked-follow i (suc p) es (suc d))
   where
     go : (t : Bool) → eqb p i ≡ t
@@ -111,7 +111,7 @@ turn-here p (Start k d) es =
 turn-here p Finish es = from-here p (leave ∷ [])
 turn-here p (Token k n) es = from-here p (token k n ∷ [])
 turn-here p (Error c x) es = from-here p (error c x ∷ [])
-turn-here p NoEvent es = refl
+turn-here p (NoEvent a b) es = refl
 
 turn-elsewhere : (i p : ℕ) (e : Event) (es : List Event) → (p ≡ i → ⊥) → from i (turn p e es .steps) ++ asked i (suc p) (turn p e es .left) ≡ asked i (suc p) es
 unfolding turn entered from
@@ -119,7 +119,7 @@ turn-elsewhere i p (Start k d) es n = rw (from-append, from-elsewhere i p (enter
 turn-elsewhere i p Finish es n = rw (from-elsewhere i p (leave ∷ []) n)
 turn-elsewhere i p (Token k m) es n = rw (from-elsewhere i p (token k m ∷ []) n)
 turn-elsewhere i p (Error c x) es n = rw (from-elsewhere i p (error c x ∷ []) n)
-turn-elsewhere i p NoEvent es n = refl
+turn-elsewhere i p (NoEvent a b) es n = refl
 
 asked-turns : (i n p : ℕ) (es : List Event) → length es ≡ n → from i (turns n p es .steps) ≡ asked i p es
 unfolding turns from asked
@@ -137,7 +137,7 @@ asked-turns i (suc n) p (e ∷ es) l =
     go false q = rw q (turn-elsewhere i p e es (eqb-false p i q))
 
 -- the steps of a run that come from event i are its own
-pub own-once : (es : List Event) (i : ℕ) → from i (process es .steps) ≡ own (getD es i NoEvent)
+pub own-once : (es : List Event) (i : ℕ) → from i (process es .steps) ≡ own (getD es i (NoEvent 0 0))
 own-once es i =
     let z : 0 + i ≡ i = omega arith in
     asked-turns i (length es) 0 es refl ∙ rw z at (asked-at 0 es i)
@@ -168,7 +168,7 @@ tombs-turn p (Start k d) es = tombs-entered (record { place = p; kind = k } ∷ 
 tombs-turn p Finish es = refl
 tombs-turn p (Token k n) es = refl
 tombs-turn p (Error c x) es = refl
-tombs-turn p NoEvent es = refl
+tombs-turn p (NoEvent a b) es = refl
 
 tombs-turns : (n p : ℕ) (es : List Event) → entersTombstone (stepsOf (turns n p es .steps)) ≡ false
 unfolding turns entersTombstone

@@ -8,21 +8,20 @@ use mathlib.Core.List.{List, []}
 use lib.ListN.{length, getD, drop, drop-of-length-le, List·getD-eq-default}
 use lib.Seq.{drop-cons, getD-drop}
 use borrow.Author.Tests.{eq-eqb, ne-eqb, lt-ltb, le-ltb}
-use Rattle.events.specs.declared.event.Event.{Event}
-use Rattle.events.specs.declared.event.Event.the-variants.{Start, Finish, Token, Error, NoEvent}
-use Rattle.events.specs.declared.Next.the-variants.{Open, Fault}
-use Rattle.events.specs.Event.{eventsOf, isStart}
+use Rattle.event.specs.declared.Event.{Event}
+use Rattle.event.specs.declared.Event.the-variants.{Start, Finish, Token, Error, NoEvent}
+use Rattle.event.specs.Event.{eventsOf, isStart}
 use Rattle.events.specs.Answer.{says}
-use Rattle.events.specs.Check.{lands, next, scan, checked}
+use Rattle.events.specs.Check.{Next.Open, Next.Fault, lands, next, scan, checked}
 use Rattle.events.specs.Shape.{cost, need}
 
 -- where a distance lands, by its index
-pub lands-index : (es : List Event) (i d : ℕ) → (d ≡ 0 → ⊥) → isStart (getD es (i + d) NoEvent) ≡ lands (drop (suc i) es) d
+pub lands-index : (es : List Event) (i d : ℕ) → (d ≡ 0 → ⊥) → isStart (getD es (i + d) (NoEvent 0 0)) ≡ lands (drop (suc i) es) d
 lands-index es i zero n = absurd (n refl)
 lands-index es i (suc d) n = let e : i + suc d ≡ suc i + d = omega arith in rw (e, getD-drop)
 
 pub lands-past : (es : List Event) (i d : ℕ) → (d ≡ 0 → ⊥) → length es ≤ i + d → false ≡ lands (drop (suc i) es) d
-lands-past es i d n h = ap isStart (sym (List·getD-eq-default es NoEvent h)) ∙ lands-index es i d n
+lands-past es i d n h = ap isStart (sym (List·getD-eq-default es (NoEvent 0 0) h)) ∙ lands-index es i d n
 
 -- an event opens one node at most
 pub next-bound : (x : Event) (o p : ℕ) (es : List Event) → next x o es ≡ Open p → p ≤ o + 1
@@ -36,17 +35,17 @@ next-bound Finish zero p es e = let z : _≡_ {A = ℕ} 0 1 = cc in absurd (omeg
 next-bound Finish (suc o) p es e = let q : o ≡ p = cc in omega arith
 next-bound (Token k n) o p es e = let q : o ≡ p = cc in omega arith
 next-bound (Error c x) o p es e = let q : o ≡ p = cc in omega arith
-next-bound NoEvent o p es e = let z : _≡_ {A = ℕ} 0 1 = cc in absurd (omega arith)
+next-bound (NoEvent a b) o p es e = let z : _≡_ {A = ℕ} 0 1 = cc in absurd (omega arith)
 
 -- the check's loop
 module _ (es : List Event) (i o : ℕ) where
-  pub scan-open : (p : ℕ) → i < length es → next (getD es i NoEvent) o (drop (suc i) es) ≡ Open p → scan (drop (suc i) es) (suc i) p ≡ scan (drop i es) i o
+  pub scan-open : (p : ℕ) → i < length es → next (getD es i (NoEvent 0 0)) o (drop (suc i) es) ≡ Open p → scan (drop (suc i) es) (suc i) p ≡ scan (drop i es) i o
   unfolding scan
-  scan-open p h e = rw (drop-cons es i NoEvent h, e)
+  scan-open p h e = rw (drop-cons es i (NoEvent 0 0) h, e)
 
-  pub scan-fault : i < length es → next (getD es i NoEvent) o (drop (suc i) es) ≡ Fault → says 9 i ≡ scan (drop i es) i o
+  pub scan-fault : i < length es → next (getD es i (NoEvent 0 0)) o (drop (suc i) es) ≡ Fault → says 9 i ≡ scan (drop i es) i o
   unfolding scan
-  scan-fault h e = rw (drop-cons es i NoEvent h, e)
+  scan-fault h e = rw (drop-cons es i (NoEvent 0 0) h, e)
 
   pub scan-done : length es ≤ i → o ≡ 0 → says 0 i ≡ scan (drop i es) i o
   unfolding scan
@@ -74,9 +73,9 @@ module _ (ws : List ℕ) where
   checked-list h e = rw (le-ltb _ _ h, eq-eqb _ _ e)
 
 -- the sum's loop
-pub need-turn : (es : List Event) (i : ℕ) → i < length es → need (drop i es) ≡ cost (getD es i NoEvent) + need (drop (suc i) es)
+pub need-turn : (es : List Event) (i : ℕ) → i < length es → need (drop i es) ≡ cost (getD es i (NoEvent 0 0)) + need (drop (suc i) es)
 unfolding need
-need-turn es i h = rw (drop-cons es i NoEvent h)
+need-turn es i h = rw (drop-cons es i (NoEvent 0 0) h)
 
 pub need-end : (es : List Event) (i : ℕ) → length es ≤ i → need (drop i es) ≡ 0
 unfolding need

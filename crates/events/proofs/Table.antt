@@ -5,34 +5,34 @@ use native.Mathlib.Omega.{arith}
 use mathlib.Core.Path.{_≡_, refl, sym, ap, _∙_}
 use mathlib.Core.Bool.{Bool, true, false, cond, true≢false}
 use mathlib.Core.List.{List, [], _∷_}
-use lib.Dec.{T, eqb, leb, ltb, eqb→eq}
+use lib.Dec.{T, eqb, leb, eqb→eq}
 use lib.ListN.{length, getD, drop, List·getD-eq-default}
-use borrow.Author.Tests.{eqb-true, eqb-false, eq-eqb, ne-eqb, lt-ltb, le-ltb, le-leb, lt-leb, leb-true, leb-false, ltb-true, ltb-false}
-use Rattle.events.specs.declared.event.Event.{Event}
-use Rattle.events.specs.declared.event.Event.the-variants.{Start, Finish, Token, Error, NoEvent}
-use Rattle.events.specs.declared.Next.the-variants.{Open, Fault}
-use Rattle.events.specs.Event.{decode, eventsOf, isStart, distance}
+use borrow.Author.Tests.{eqb-true, eqb-false, ne-eqb, le-ltb, le-leb, lt-leb, leb-true, leb-false}
+use Rattle.event.specs.declared.Event.{Event}
+use Rattle.event.specs.declared.Event.the-variants.{Start, Finish, Token, Error, NoEvent}
+use Rattle.event.specs.Event.{decode, eventsOf, isStart, distance}
+use Rattle.laws.proofs.Tests.{by-test}
+use Rattle.event.proofs.Rooms.{event-index}
+use Rattle.event.proofs.Encoding.{say-start, say-other}
 use Rattle.records.specs.Record.{bytes}
-use Rattle.events.specs.Check.{lands, next}
+use Rattle.events.specs.Check.{Next.Open, Next.Fault, lands, next}
 use Rattle.events.specs.Shape.{cost}
 use Rattle.events.specs.Inside.{Say, tells, Traits}
-use Rattle.records.proofs.Tests.{by-test}
-use Rattle.events.proofs.Encoding.{event-index}
+use Rattle.events.proofs.Writes.{enter-le}
 use Rattle.events.proofs.Scans.{lands-index}
 
 -- ---- the table
 
 -- the numbers, as src/lib.rt has them
 abbrev pub table : List ℕ
-table = 1087 ∷ 1087 ∷ 63 ∷ 863 ∷ 513 ∷ 0 ∷ 942 ∷ 942 ∷ []
+table = 0 ∷ 0 ∷ 63 ∷ 863 ∷ 513 ∷ 0 ∷ 942 ∷ 942 ∷ []
 
 -- `tells` of an event by its tag, its kind and its second word
 told : ℕ → ℕ → ℕ → ℕ
 told t k b =
     cond (eqb t 1) (2 + min k 1 + 4 * cond (eqb k 0) 0 6)
     (cond (eqb t 2) (cond (eqb k 0) (cond (eqb b 0) 17 0) 0)
-    (cond (eqb t 3) (cond (eqb b 0) 0 (cond (leb b 3) 30 0))
-    (cond (eqb t 4) (cond (ltb b 65536) 34 0) 0)))
+    (cond (eqb t 3) (cond (eqb b 0) 0 (cond (leb b 3) 30 0)) 0))
 
 tells-start : (k d : ℕ) → tells (Start k d) ≡ 2 + min k 1 + 4 * cond (eqb k 0) 0 6
 unfolding tells bytes
@@ -51,24 +51,20 @@ tells-token : (k n : ℕ) → tells (Token k n) ≡ 30
 unfolding tells bytes
 tells-token k n = refl
 
-tells-error : (c x : ℕ) → tells (Error c x) ≡ 34
-unfolding tells bytes
-tells-error c x = refl
-
-tells-none : tells NoEvent ≡ 0
+tells-none : (a b : ℕ) → tells (NoEvent a b) ≡ 0
 unfolding tells
-tells-none = refl
+tells-none a b = refl
 
-tells-told : (a b : ℕ) → tells (decode a b) ≡ told (a / 65536) (a % 65536) b
+tells-told : (a b : ℕ) → a < 262144 → tells (decode a b) ≡ told (a / 65536) (a % 65536) b
 unfolding decode told
-tells-told a b = simp (tells-cond, tells-start, tells-finish, tells-token, tells-error, tells-none)
+tells-told a b h = rw (ne-eqb (a / 65536) 4 (λ e. omega arith)) (simp (tells-cond, tells-start, tells-finish, tells-token, tells-none))
 
 -- a kind counts as 0 or 1, and a second word as one below 5
-told-small : (t k b : ℕ) → b < 65536 → told t k b ≡ told t (min k 1) (min b 4)
+told-small : (t k b : ℕ) → told t k b ≡ told t (min k 1) (min b 4)
 unfolding told
-told-small t k b h =
+told-small t k b =
     let k₁ : min (min k 1) 1 ≡ min k 1 = omega arith in
-    rw (k₁, zeros k 1 (omega arith), zeros b 4 (omega arith), threes (leb b 3) refl, lt-ltb b 65536 h, lt-ltb (min b 4) 65536 (omega arith))
+    rw (k₁, zeros k 1 (omega arith), zeros b 4 (omega arith), threes (leb b 3) refl)
   where
     zeros : (x m : ℕ) → 0 < m → eqb x 0 ≡ eqb (min x m) 0
     zeros zero m l = let e : min 0 m ≡ 0 = omega arith in rw e
@@ -85,12 +81,12 @@ says r c = r / 2 ^ c % 2 * (1 + r / 32)
 right : ℕ → ℕ → ℕ → Bool
 right t z c = eqb (says (getD table ((2 * t + z) % 8) 0) c) (told t z c)
 
--- every case: tag 1 to 4, no kind or one, second word 0 to 4
+-- every case: tag 1 to 3, no kind or one, second word 0 to 4
 every : ℕ → Bool
 every zero = true
 every (suc n) = cond (right (1 + n / 10) (n / 5 % 2) (n % 5)) (every n) false
 
-all-right : T (every 40)
+all-right : T (every 30)
 unfolding every right told
 all-right = tt
 
@@ -105,64 +101,48 @@ one-right (suc m) t n h = go (right (1 + m / 10) (m / 5 % 2) (m % 5)) refl t (eq
     go true q u false e before = before u (omega (arith, eqb-false n m e))
     go false q u e f before = absurd u
 
-table-right : (t z c : ℕ) → 0 < t → t < 5 → z < 2 → c < 5 → says (getD table ((2 * t + z) % 8) 0) c ≡ told t z c
+table-right : (t z c : ℕ) → 0 < t → t < 4 → z < 2 → c < 5 → says (getD table ((2 * t + z) % 8) 0) c ≡ told t z c
 unfolding right
 table-right t z c h₀ h₁ h₂ h₃ =
     let n : ℕ = (t - 1) * 10 + z * 5 + c in
     let e₁ : 1 + n / 10 ≡ t = omega arith in
     let e₂ : n / 5 % 2 ≡ z = omega arith in
     let e₃ : n % 5 ≡ c = omega arith in
-    eqb→eq _ _ (rw (e₁, e₂, e₃) at (one-right 40 all-right n (omega arith)))
+    eqb→eq _ _ (rw (e₁, e₂, e₃) at (one-right 30 all-right n (omega arith)))
 
 -- the number at a word's class says its traits
-pub traits-at : (a class n : ℕ) → 65536 ≤ a → a < 327680 → class ≡ 2 * (a / 65536) + min (a % 65536) 1 → getD table (class % 8) 0 ≡ n → Traits a n
+pub traits-at : (a class n : ℕ) → 65536 ≤ a → a < 262144 → class ≡ 2 * (a / 65536) + min (a % 65536) 1 → getD table (class % 8) 0 ≡ n → Traits a n
 traits-at a class n l h e q b s =
     let r = table-right (a / 65536) (min (a % 65536) 1) (min b 4) (omega arith) (omega arith) (omega arith) (omega arith) in
-    (rw (← q, e) r) ∙ sym (told-small (a / 65536) (a % 65536) b s) ∙ sym (tells-told a b)
+    (rw (← q, e) r) ∙ sym (told-small (a / 65536) (a % 65536) b) ∙ sym (tells-told a b (omega arith))
 
 -- ---- what two words say
 
 -- a first word that says an event has a tag from 1 to 4
-Range : ℕ → Event → Type 0
-Range a e = (e ≡ NoEvent → ⊥) → (65536 ≤ a) × (a < 327680)
+Range : ℕ → ℕ → Event → Type 0
+Range a b e = (e ≡ NoEvent a b → ⊥) → (65536 ≤ a) × (a < 327680)
 
-tagged : (a t : ℕ) (e : Event) → 0 < t → t < 5 → eqb (a / 65536) t ≡ true → Range a e
+tagged : (a b t : ℕ) (e : Event) → 0 < t → t < 5 → eqb (a / 65536) t ≡ true → Range a b e
 unfolding Range
-tagged a t e h l q n = (omega (arith, eqb-true (a / 65536) t q), omega (arith, eqb-true (a / 65536) t q))
+tagged a b t e h l q n = (omega (arith, eqb-true (a / 65536) t q), omega (arith, eqb-true (a / 65536) t q))
 
 pub say-range : (a b : ℕ) → Say a b → (65536 ≤ a) × (a < 327680)
 unfolding Range decode
 say-range a b =
-    by-test (Range a) (eqb (a / 65536) 1) _ _ (tagged a 1 _ (omega arith) (omega arith)) λ _.
-    by-test (Range a) (eqb (a / 65536) 2) _ _ (tagged a 2 _ (omega arith) (omega arith)) λ _.
-    by-test (Range a) (eqb (a / 65536) 3) _ _ (tagged a 3 _ (omega arith) (omega arith)) λ _.
-    by-test (Range a) (eqb (a / 65536) 4) _ _ (tagged a 4 _ (omega arith) (omega arith)) λ _ n. absurd (n refl)
+    by-test (Range a b) (eqb (a / 65536) 1) _ _ (tagged a b 1 _ (omega arith) (omega arith)) λ _.
+    by-test (Range a b) (eqb (a / 65536) 2) _ _ (tagged a b 2 _ (omega arith) (omega arith)) λ _.
+    by-test (Range a b) (eqb (a / 65536) 3) _ _ (tagged a b 3 _ (omega arith) (omega arith)) λ _.
+    by-test (Range a b) (eqb (a / 65536) 4) _ _ (tagged a b 4 _ (omega arith) (omega arith)) λ _ n. absurd (n refl)
 
--- only a tag of 1 makes a start
-pub say-start : (a b : ℕ) → a / 65536 ≡ 1 → decode a b ≡ Start (a % 65536) b
-unfolding decode
-say-start a b e = rw (eq-eqb (a / 65536) 1 e)
+-- a start asks for six bytes at most
+pub enter-cost : (a b : ℕ) → a / 65536 ≡ 1 → cost (decode a b) ≤ 6
+enter-cost a b e = rw (say-start a b e) (enter-le (a % 65536) b)
 
 pub say-enter : (a b : ℕ) → a / 65536 ≡ 1 → Say a b
 say-enter a b t e =
-    let q : Start (a % 65536) b ≡ NoEvent = sym (say-start a b t) ∙ e in
+    let q : Start (a % 65536) b ≡ NoEvent a b = sym (say-start a b t) ∙ e in
     let z : _≡_ {A = ℕ} 0 1 = cc in
     omega arith
-
--- no start, and so no distance
-abbrev Bare : Event → Type 0
-Bare e = (isStart e ≡ false) × (distance e ≡ 0)
-
-pub say-other : (a b : ℕ) → (a / 65536 ≡ 1 → ⊥) → Bare (decode a b)
-unfolding decode
-say-other a b n =
-    rw (ne-eqb (a / 65536) 1 n)
-    (by-test Bare (eqb (a / 65536) 2) _ _
-    (λ _. by-test Bare (eqb (a % 65536) 0) _ _ (λ _. by-test Bare (eqb b 0) _ _ (λ _. (refl, refl)) (λ _. (refl, refl))) (λ _. (refl, refl)))
-    λ _. by-test Bare (eqb (a / 65536) 3) _ _
-    (λ _. by-test Bare (eqb b 0) _ _ (λ _. (refl, refl)) (λ _. by-test Bare (leb b 3) _ _ (λ _. (refl, refl)) (λ _. (refl, refl))))
-    λ _. by-test Bare (eqb (a / 65536) 4) _ _
-    (λ _. by-test Bare (ltb b 65536) _ _ (λ _. (refl, refl)) (λ _. (refl, refl))) (λ _. (refl, refl)))
 
 -- the distance of an event, by its first word
 pub leads-start : (a b : ℕ) → 65536 ≤ a → a < 131072 → b ≡ distance (decode a b)
@@ -215,7 +195,7 @@ module _ (o : ℕ) (es : List Event) where
   next-none Finish h = absurd (omega arith)
   next-none (Token k n) h = absurd (omega arith)
   next-none (Error c x) h = absurd (omega arith)
-  next-none NoEvent h = refl
+  next-none (NoEvent a b) h = refl
 
   -- a distance that does not land
   pub next-lost : (e : Event) → lands es (distance e) ≡ false → Fault ≡ next e o es
@@ -224,7 +204,7 @@ module _ (o : ℕ) (es : List Event) where
   next-lost Finish h = absurd (true≢false h)
   next-lost (Token k n) h = absurd (true≢false h)
   next-lost (Error c x) h = absurd (true≢false h)
-  next-lost NoEvent h = absurd (true≢false h)
+  next-lost (NoEvent a b) h = absurd (true≢false h)
 
   -- an event whose distance lands, and whose traits r has
   module _ (r : ℕ) where
@@ -234,7 +214,7 @@ module _ (o : ℕ) (es : List Event) where
     next-fault Finish h l z = let q : o ≡ 0 = omega arith in rw q
     next-fault (Token k n) h l z = absurd (omega arith)
     next-fault (Error c x) h l z = absurd (omega arith)
-    next-fault NoEvent h l z = absurd (omega arith)
+    next-fault (NoEvent a b) h l z = absurd (omega arith)
 
     pub next-passes : (e : Event) → 1 + r / 32 ≡ tells e → lands es (distance e) ≡ true → (o + r / 32 % 4 ≡ 0 → ⊥) → Open (o + r / 32 % 4 - 1) ≡ next e o es
     unfolding tells next bytes
@@ -248,7 +228,7 @@ module _ (o : ℕ) (es : List Event) where
         close (suc o) n = let q : suc o - 1 ≡ o = omega arith in rw q
     next-passes (Token k m) h l n = let q : o + r / 32 % 4 - 1 ≡ o = omega arith in rw q
     next-passes (Error c x) h l n = let q : o + r / 32 % 4 - 1 ≡ o = omega arith in rw q
-    next-passes NoEvent h l n = absurd (omega arith)
+    next-passes (NoEvent a b) h l n = absurd (omega arith)
 
   -- a second word too large for any list
   abbrev Faulty : Event → Type 0
@@ -265,17 +245,14 @@ module _ (o : ℕ) (es : List Event) where
     where
       past : (b : ℕ) → length es < b → lands es b ≡ false
       past zero l = absurd (omega arith)
-      past (suc d) l = ap isStart (List·getD-eq-default es NoEvent (omega arith))
+      past (suc d) l = ap isStart (List·getD-eq-default es (NoEvent 0 0) (omega arith))
 
--- no event stands outside the range
-pub tells-out : (a b : ℕ) → (65536 ≤ a → a < 327680 → ⊥) → tells (decode a b) ≡ 0
+-- no event has so small a first word
+pub tells-out : (a b : ℕ) → a < 65536 → tells (decode a b) ≡ 0
 unfolding decode
-tells-out a b n =
-    let n₁ : a / 65536 ≡ 1 → ⊥ = λ e. n (omega arith) (omega arith) in
-    let n₂ : a / 65536 ≡ 2 → ⊥ = λ e. n (omega arith) (omega arith) in
-    let n₃ : a / 65536 ≡ 3 → ⊥ = λ e. n (omega arith) (omega arith) in
-    let n₄ : a / 65536 ≡ 4 → ⊥ = λ e. n (omega arith) (omega arith) in
-    rw (ne-eqb (a / 65536) 1 n₁, ne-eqb (a / 65536) 2 n₂, ne-eqb (a / 65536) 3 n₃, ne-eqb (a / 65536) 4 n₄) tells-none
+tells-out a b h =
+    rw (ne-eqb (a / 65536) 1 (λ e. omega arith), ne-eqb (a / 65536) 2 (λ e. omega arith), ne-eqb (a / 65536) 3 (λ e. omega arith), ne-eqb (a / 65536) 4 (λ e. omega arith))
+    (tells-none a b)
 
 -- a bit that is not set, and one that is
 pub bit-off : (x n m : ℕ) → x % 2 ≡ 0 → x % 2 * n ≡ m → m ≡ 0
@@ -291,24 +268,4 @@ tells-cost (Start k d) r h = omega arith
 tells-cost Finish r h = omega arith
 tells-cost (Token k n) r h = omega arith
 tells-cost (Error c x) r h = omega arith
-tells-cost NoEvent r h = absurd (omega arith)
-
--- an event that passes: it is one, and its traits have its bytes
-module _ (a b o p : ℕ) (es : List Event) (q : next (decode a b) o es ≡ Open p) where
-  pub open-say : Say a b
-  unfolding next
-  open-say e = let z : _≡_ {A = ℕ} 0 1 = cc (rw e at q) in omega arith
-
-  pub open-cost : (r : ℕ) → length es < 65536 → Traits a r → r / 128 ≡ cost (decode a b)
-  open-cost r l t = far (ltb b 65536) refl
-    where
-      never : Fault ≡ next (decode a b) o es → ⊥
-      never f = let z : _≡_ {A = ℕ} 0 1 = cc in omega arith
-
-      bit : (x : ℕ) → r / 2 ^ min b 4 % 2 ≡ x → r / 2 ^ min b 4 % 2 * (1 + r / 32) ≡ tells (decode a b) → r / 128 ≡ cost (decode a b)
-      bit zero e h = absurd (never (next-none o es (decode a b) (let z : 0 * (1 + r / 32) ≡ 0 = omega arith in sym (rw (e, z) at h))))
-      bit (suc x) e h = tells-cost (decode a b) r (bit-on (r / 2 ^ min b 4) (1 + r / 32) (tells (decode a b)) (λ z. omega arith) h)
-
-      far : (s : Bool) → ltb b 65536 ≡ s → r / 128 ≡ cost (decode a b)
-      far true e = bit (r / 2 ^ min b 4 % 2) refl (t b (ltb-true b 65536 e))
-      far false e = absurd (never (next-far o es a b (omega (arith, ltb-false b 65536 e)) (omega (arith, ltb-false b 65536 e))))
+tells-cost (NoEvent a b) r h = absurd (omega arith)

@@ -10,17 +10,17 @@ use lib.ListN.{length, getD, replicate}
 use borrow.Author.Tests.{eqb-true}
 use Rattle.events.specs.declared.Answer.{Answer}
 use Rattle.events.specs.declared.Answer.the-variants.{Done, TooLong, Faulty, NoRoom}
-use Rattle.events.specs.declared.event.Event.{Event}
-use Rattle.events.specs.declared.event.Event.the-variants.{Start, NoEvent}
+use Rattle.event.specs.declared.Event.{Event}
+use Rattle.event.specs.declared.Event.the-variants.{Start, NoEvent}
+use Rattle.event.specs.Event.{eventsOf, wordsOf, tombstone}
+use Rattle.laws.proofs.Tests.{by-test}
 use Rattle.records.specs.declared.Step.the-variants.{Enter as enter}
-use Rattle.events.specs.Event.{eventsOf, wordsOf, tombstone}
 use Rattle.records.specs.Record.{over}
 use Rattle.events.specs.Answer.{Numbers, says, numbers}
 use Rattle.events.specs.Check.{checked}
 use Rattle.events.specs.Process.{process, file, stepsOf}
 use Rattle.events.specs.Resolve.{ends, panics, settled, resolved}
 use Rattle.events.specs.Shape.{closes, from, need}
-use Rattle.records.proofs.Tests.{by-test}
 use Rattle.events.proofs.Writes.{own-kind, own-none}
 use Rattle.events.proofs.Running.{turns-left}
 use Rattle.events.proofs.Passing.{passed-scan, passed-sound}
@@ -87,8 +87,8 @@ never-panics ws out =
         (by-test (λ x. x ≡ panics → ⊥) (ltb (length out) (length (file (process (eventsOf ws) .steps)))) _ _ (λ _. an-end _ _ _) (λ _. an-end _ _ _))
 
 -- Each start with a kind is entered exactly once, and nothing else comes from its place. From a tombstone's comes nothing at all.
-pub entered-once : (es : List Event) (i k d : ℕ) → getD es i NoEvent ≡ Start k d → (k ≡ 0 → ⊥) → from i (process es .steps) ≡ enter k ∷ []
+pub entered-once : (es : List Event) (i k d : ℕ) → getD es i (NoEvent 0 0) ≡ Start k d → (k ≡ 0 → ⊥) → from i (process es .steps) ≡ enter k ∷ []
 entered-once es i k d e n = own-once es i ∙ own-kind _ k d e n
 
-pub tombstone-never : (es : List Event) (i d : ℕ) → getD es i NoEvent ≡ Start 0 d → from i (process es .steps) ≡ []
+pub tombstone-never : (es : List Event) (i d : ℕ) → getD es i (NoEvent 0 0) ≡ Start 0 d → from i (process es .steps) ≡ []
 tombstone-never es i d e = own-once es i ∙ own-none _ 0 d e refl

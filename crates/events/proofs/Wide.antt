@@ -11,13 +11,14 @@ use lib.Dec.{eqb}
 use lib.ListN.{length, getD, take, drop, length-append, length-take, take-append-drop}
 use lib.Seq.{drop-drop, take-at, drop-at}
 use borrow.Author.Tests.{eq-eqb, ne-eqb}
-use Rattle.events.specs.declared.event.Event.{Event}
-use Rattle.events.specs.declared.event.Event.the-variants.{Start, Finish, Token, Error, NoEvent}
-use Rattle.events.specs.Event.{encode, decode}
+use Rattle.event.specs.declared.Event.{Event}
+use Rattle.event.specs.declared.Event.the-variants.{Start, Finish, Token, Error, NoEvent}
+use Rattle.event.specs.declared.Words.{Words}
+use Rattle.event.specs.Event.{words, encode, decode, Sound}
+use Rattle.event.proofs.Encoding.{encode-decode, decode-sound}
 use Rattle.records.specs.Record.{bytes, over, Wrote}
 use Rattle.events.specs.Shape.{own, cost}
 use Rattle.events.specs.Inside.{Say, heads, le64, Laid}
-use Rattle.events.proofs.Encoding.{Sound, encode-decode}
 
 -- ---- writes whose rest does not count
 
@@ -90,7 +91,7 @@ halves h k x l₁ l₂ l₃ =
     let e₇ : n / 72057594037927936 % 256 ≡ x / 256 = ap (λ (y : ℕ). y % 256) (higher h t 4294967296 16777216 l₁ ∙ higher k x 65536 256 l₂) ∙ omega arith in
     rw (e₀, e₁, e₂, e₃, e₄, e₅, e₆, e₇)
 
--- the word that the code writes for two words: what its event asks for itself, and more
+-- the word that the code writes for two words that are no error's: what its event asks for itself, and more
 abbrev wordOf : ℕ → ℕ → ℕ
 wordOf a b = getD heads (a / 65536 % 4) 0 + (a % 65536 + b % 65536 * 65536) * 4294967296
 
@@ -99,14 +100,17 @@ pub record Wide (a b : ℕ) (e : Event) : Type 0 where
   pub whole : le64 (wordOf a b) ≡ bytes (own e) ++ rest
   pub size : cost e ≡ cond (eqb a 65536) 0 (4 + getD heads (a / 65536 % 4) 0 % 8)
 
-wide : (e : Event) (a b : ℕ) → Sound e → encode e ≡ a ∷ (b ∷ []) → Wide a b e
-unfolding Sound encode bytes
-wide (Start zero d) a b s q =
-    let e : a ≡ 65536 = cc in
+front : {v w : Words} → v ≡ w → v .first ≡ w .first
+front q = ap (λ (w : Words). w .first) q
+
+wide : (e : Event) (a b : ℕ) → a < 262144 → Sound e → encode e ≡ words a b → Wide a b e
+unfolding encode bytes
+wide (Start zero d) a b f s q =
+    let e : a ≡ 65536 = sym (front q) in
     record { rest = le64 (wordOf a b); whole = refl; size = rw (eq-eqb a 65536 e) }
-wide (Start (suc k) d) a b s q =
+wide (Start (suc k) d) a b f s q =
     let l : suc k < 65536 = s in
-    let e : 65536 + suc k ≡ a = cc in
+    let e : 65536 + suc k ≡ a = front q in
     let m : a % 65536 ≡ suc k = omega arith in
     let u : a / 65536 ≡ 1 = omega arith in
     let t : a / 65536 % 4 ≡ 1 = rw u in
@@ -115,18 +119,18 @@ wide (Start (suc k) d) a b s q =
       whole = rw (m, t, ne-eqb (suc k) 0 (λ z. omega arith)) (halves 65538 (suc k) (b % 65536) (omega arith) l (omega arith));
       size = rw (ne-eqb a 65536 (λ z. omega arith), t, ne-eqb (suc k) 0 (λ z. omega arith));
     }
-wide Finish a b s q =
-    let e : 131072 ≡ a = cc in
+wide Finish a b f s q =
+    let e : 131072 ≡ a = front q in
     let t : a / 65536 % 4 ≡ 2 = omega arith in
     record {
       rest = a % 65536 % 256 ∷ a % 65536 / 256 ∷ b % 65536 % 256 ∷ b % 65536 / 256 ∷ [];
       whole = rw t (halves 131072 (a % 65536) (b % 65536) (omega arith) (omega arith) (omega arith));
       size = rw (ne-eqb a 65536 (λ z. omega arith), t);
     }
-wide (Token k n) a b s q =
+wide (Token k n) a b f s q =
     let l : k < 65536 = s .0 in
-    let e : 196608 + k ≡ a = cc in
-    let f : n ≡ b = cc in
+    let e : 196608 + k ≡ a = front q in
+    let g : n ≡ b = ap (λ (w : Words). w .second) q in
     let m : a % 65536 ≡ k = omega (arith, s .0) in
     let u : a / 65536 ≡ 3 = omega arith in
     let t : a / 65536 % 4 ≡ 3 = rw u in
@@ -136,28 +140,16 @@ wide (Token k n) a b s q =
       whole = rw (m, t, ← x) (halves 196611 k (b % 65536) (omega arith) (s .0) (omega arith));
       size = rw (ne-eqb a 65536 (λ z. omega arith), t);
     }
-wide (Error c y) a b s q =
-    let l : c < 65536 = s .0 in
-    let e : 262144 + c ≡ a = cc in
-    let f : y ≡ b = cc in
-    let m : a % 65536 ≡ c = omega (arith, s .0) in
-    let u : a / 65536 ≡ 4 = omega arith in
-    let t : a / 65536 % 4 ≡ 0 = rw u in
-    let x : b % 65536 ≡ y = omega (arith, s .1) in
-    record {
-      rest = [];
-      whole = rw (m, t, x) (halves 262148 c y (omega arith) (s .0) (s .1));
-      size = rw (ne-eqb a 65536 (λ z. omega arith), t);
-    }
-wide NoEvent a b s q = absurd s
+wide (Error c y) a b f s q = let e : 262144 + c ≡ a = front q in absurd (omega arith)
+wide (NoEvent x y) a b f s q = absurd s
 
-pub wide-own : (a b : ℕ) → Say a b → Wide a b (decode a b)
-wide-own a b n = let r = encode-decode a b n in wide (decode a b) a b (r .0) (r .1)
+pub wide-own : (a b : ℕ) → a < 262144 → Say a b → Wide a b (decode a b)
+wide-own a b f n = wide (decode a b) a b f (decode-sound a b n) (encode-decode a b)
 
 -- what the write of that word leaves
-pub wide-laid : (a b : ℕ) → Say a b → (l m : List ℕ) (i p : ℕ) → i + 8 ≤ length l → m ≡ over l i (le64 (wordOf a b))
+pub wide-laid : (a b : ℕ) → a < 262144 → Say a b → (l m : List ℕ) (i p : ℕ) → i + 8 ≤ length l → m ≡ over l i (le64 (wordOf a b))
     → p ≡ i + cond (eqb a 65536) 0 (4 + getD heads (a / 65536 % 4) 0 % 8) → Laid l i (bytes (own (decode a b))) (i + 8) p m
-wide-laid a b n l m i p h w q =
-    let r = wide-own a b n in
+wide-laid a b f n l m i p h w q =
+    let r = wide-own a b f n in
     let k : length (bytes (own (decode a b)) ++ r .rest) ≡ 8 = ap length (sym (r .whole)) in
     laid-more l i (bytes (own (decode a b))) (i + 8) p m (r .rest) (omega arith) (w ∙ ap (λ (x : List ℕ). over l i x) (r .whole)) (q ∙ ap (λ (x : ℕ). i + x) (sym (r .size))) (omega arith)

@@ -9,13 +9,13 @@ use lib.Dec.{eqb}
 use borrow.Author.Tests.{eq-eqb, ne-eqb}
 use Rattle.records.specs.declared.Step.{Step}
 use Rattle.records.specs.declared.Step.the-variants.{Enter as enter}
-use Rattle.records.specs.Record.{recordOf, bytes, Wrote}
+use Rattle.records.specs.Record.{recordOf, stepBytes, bytes, Wrote}
 use Rattle.records.proofs.Writes.{wrote-none, bytes-append, bytes-one}
-use Rattle.events.specs.declared.event.Event.{Event}
-use Rattle.events.specs.declared.event.Event.the-variants.{Start, Finish, Token, Error, NoEvent}
+use Rattle.event.specs.declared.Event.{Event}
+use Rattle.event.specs.declared.Event.the-variants.{Start, Finish, Token, Error, NoEvent}
+use Rattle.laws.proofs.Tests.{by-test}
 use Rattle.events.specs.Process.{Placed, file}
 use Rattle.events.specs.Shape.{own, cost}
-use Rattle.records.proofs.Tests.{by-test}
 
 pub file-append : (r s : List Placed) → file (r ++ s) ≡ file r ++ file s
 file-append r s = rw map-append (bytes-append _ _)
@@ -38,11 +38,16 @@ wrote-step l i p m ss s e w = rw (e, bytes-one) w
 pub room-step : (i n : ℕ) (ss : List Step) (s : Step) → ss ≡ s ∷ [] → i + length (bytes ss) ≤ n → i + length (recordOf s) ≤ n
 room-step i n ss s e h = rw (e, bytes-one) at h
 
--- what an event asks for itself has 8 bytes at most
-pub cost-le : (e : Event) → cost e ≤ 8
+-- what an event asks for itself is one record at most
+pub cost-le : (e : Event) → cost e ≤ stepBytes
 unfolding bytes
-cost-le (Start k d) = by-test (λ (ss : List Step). length (bytes ss) ≤ 8) (eqb k 0) [] (enter k ∷ []) (λ _. omega arith) (λ _. omega arith)
+cost-le (Start k d) = by-test (λ (ss : List Step). length (bytes ss) ≤ stepBytes) (eqb k 0) [] (enter k ∷ []) (λ _. omega arith) (λ _. omega arith)
 cost-le Finish = omega arith
 cost-le (Token k n) = omega arith
 cost-le (Error c x) = omega arith
-cost-le NoEvent = omega arith
+cost-le (NoEvent a b) = omega arith
+
+-- and of a start six bytes at most
+pub enter-le : (k d : ℕ) → cost (Start k d) ≤ 6
+unfolding bytes
+enter-le k d = by-test (λ (ss : List Step). length (bytes ss) ≤ 6) (eqb k 0) [] (enter k ∷ []) (λ _. omega arith) (λ _. omega arith)

@@ -4,11 +4,11 @@ use mathlib.Core.Bool.{Bool, true, false, cond, _||_}
 use mathlib.Core.List.{List, [], _∷_, _++_, map}
 use lib.Dec.{eqb}
 use lib.ListN.{length, getD, drop}
-use Rattle.events.specs.declared.event.Event.{Event}
-use Rattle.events.specs.declared.event.Event.the-variants.{Start, Finish, Token, Error, NoEvent}
+use Rattle.event.specs.declared.Event.{Event}
+use Rattle.event.specs.declared.Event.the-variants.{Start, Finish, Token, Error, NoEvent}
+use Rattle.event.specs.Event.{tombstone}
 use Rattle.records.specs.declared.Step.{Step}
 use Rattle.records.specs.declared.Step.the-variants.{Enter as enter, Leave as leave, Token as token, Error as error}
-use Rattle.events.specs.Event.{tombstone}
 use Rattle.records.specs.Record.{bytes}
 
 pub record Placed : Type 0 where
@@ -52,7 +52,7 @@ follow p (Start k f ∷ es) (suc zero) = visit p k (follow (suc p) es f)
 follow p (Finish ∷ es) (suc zero) = stuck (Finish ∷ es)
 follow p (Token k n ∷ es) (suc zero) = stuck (Token k n ∷ es)
 follow p (Error c x ∷ es) (suc zero) = stuck (Error c x ∷ es)
-follow p (NoEvent ∷ es) (suc zero) = stuck (NoEvent ∷ es)
+follow p (NoEvent a b ∷ es) (suc zero) = stuck (NoEvent a b ∷ es)
 follow p (e ∷ es) (suc (suc d)) = pass e (follow (suc p) es (suc d))
 
 -- `enter_node`, unless the kind is TOMBSTONE
@@ -78,7 +78,7 @@ turn p (Start k d) es =
 turn p Finish es = record { steps = placed p (leave ∷ []); left = es; panics = false }
 turn p (Token k n) es = record { steps = placed p (token k n ∷ []); left = es; panics = false }
 turn p (Error c x) es = record { steps = placed p (error c x ∷ []); left = es; panics = false }
-turn p NoEvent es = record { steps = []; left = es; panics = true }
+turn p (NoEvent a b) es = record { steps = []; left = es; panics = true }
 
 -- a turn, which leaves its own event a tombstone, and the turns after it
 abbrev pub andThen : Run → Run → Run
@@ -98,7 +98,7 @@ abbrev pub chain : List Event → ℕ → ℕ → Followed
 chain es i d = follow (suc i) (drop (suc i) es) d
 
 abbrev pub turnAt : List Event → ℕ → Run
-turnAt es i = turn i (getD es i NoEvent) (drop (suc i) es)
+turnAt es i = turn i (getD es i (NoEvent 0 0)) (drop (suc i) es)
 
 -- the steps without their places, and their step file
 abbrev pub stepsOf : List Placed → List Step

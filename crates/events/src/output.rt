@@ -1,6 +1,5 @@
 // A wide write: the head of an event's record, and eight bytes at once.
 use records::ENTER;
-use records::ERROR;
 use records::LEAVE;
 use records::TOKEN;
 ghost use mathlib.Core.Path.{_≡_};
@@ -9,12 +8,12 @@ ghost use lib.ListN.{length, getD};
 ghost use Rattle.records.specs.Record.{over};
 ghost use Rattle.events.specs.Inside.{heads, le64};
 
-// The first four bytes of the record of an event, by its first word: payload length and record kind.
+// The first four bytes of the record of a start, a finish or a token, by its first word: payload length and record kind.
 pub(crate) fn head_of(a: u32) -> u32
     ensures { λ r. ⌜ r ≡ getD heads (a / 65536 % 4) 0 ⌝ }
 {
     match a / 65536 % 4 {
-        0 => ERROR,
+        0 => 0,
         1 => ENTER,
         2 => LEAVE,
         _ => TOKEN,

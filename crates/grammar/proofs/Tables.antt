@@ -1,15 +1,15 @@
 -- A table of powers as words against the listing that defines it: one test that antt computes, and one law. Assumes nothing.
 use mathlib.Core.Path.{_≡_, refl}
 use mathlib.Core.Logic.{_⊎_, inl, inr}
-use mathlib.Core.Bool.{Bool, true, false}
+use mathlib.Core.Bool.{Bool, true, false, cond}
 use mathlib.Core.List.{List, [], _∷_}
 use Prim.Native.Nat.{ℕ, zero, suc, _+_, _-_, _*_, _/_, _%_, _^_, _≤_, _<_}
 use native.Mathlib.Omega.{arith}
 use lib.Dec.{T, eqb, ltb, leb, eqb→eq, ltb→lt, leb→le}
 use lib.ListN.{getD}
 use borrow.Author.Tests.{eqb-true, eqb-false, ne-eqb}
-use Rattle.kinds.proofs.Laws.{both, both-parts}
-use Rattle.kinds.specs.Membership.{pick, oneOf}
+use Rattle.kinds.proofs.Laws.{both-parts}
+use Rattle.kinds.specs.Membership.{oneOf, both}
 use Rattle.kinds.specs.Kinds.{EQ, PIPEEQ, SHREQ, SHLEQ, PLUSEQ, CARETEQ, PERCENTEQ, AMPEQ, SLASHEQ, STAREQ, MINUSEQ}
 use Rattle.grammar.specs.Operators.{Power, left, listed, packed, crateOrder, specificationOrder, tableOf}
 
@@ -77,7 +77,7 @@ unfolding every
 each f [] t k = inl refl
 each f (r ∷ rs) t k = by (eqb k (r .0)) refl (each f rs (both-parts (f (r .0) (r .1)) (every f rs) t .1) k)
   where
-    by : (b : Bool) → eqb k (r .0) ≡ b → (listed rs k ≡ left 0) ⊎ T (f k (listed rs k)) → (pick b (r .1) (listed rs k) ≡ left 0) ⊎ T (f k (pick b (r .1) (listed rs k)))
+    by : (b : Bool) → eqb k (r .0) ≡ b → (listed rs k ≡ left 0) ⊎ T (f k (listed rs k)) → (cond b (r .1) (listed rs k) ≡ left 0) ⊎ T (f k (cond b (r .1) (listed rs k)))
     by true e y = inr (rw (eqb-true k (r .0) e) (both-parts (f (r .0) (r .1)) (every f rs) t .0))
     by false e y = y
 
@@ -92,7 +92,7 @@ assignments = EQ ∷ PIPEEQ ∷ SHREQ ∷ SHLEQ ∷ PLUSEQ ∷ CARETEQ ∷ PERCE
 
 -- where the right side of an operator is read: a left one's is read one higher
 abbrev pub side : ℕ → ℕ
-side k = pick (oneOf assignments k) 0 1
+side k = cond (oneOf assignments k) 0 1
 
 abbrev sound : ℕ → Power → Bool
 sound k q = both (leb 1 (q .power)) (both (leb (q .power) 254) (eqb (q .next) (q .power + side k)))
@@ -120,7 +120,7 @@ operators mode k = by (in-table sound tt tt mode k)
 pub all-fair : (mode k : ℕ) → (tableOf mode k .power ≤ 254) × (tableOf mode k .power ≤ tableOf mode k .next) × (tableOf mode k .next ≤ tableOf mode k .power + 1)
 all-fair mode k = by (operators mode k)
   where
-    one : (b : Bool) → pick b 0 1 ≤ 1
+    one : (b : Bool) → cond b 0 1 ≤ 1
     one true = omega arith
     one false = omega arith
 

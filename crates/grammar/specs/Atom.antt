@@ -1,9 +1,9 @@
 -- src/grammar/expressions/atom.rs. Each definition has the name of its function there. Assumes nothing: these are definitions.
-use mathlib.Core.Bool.{Bool, true, false, not, _&&_}
+use mathlib.Core.Bool.{Bool, true, false, not, _&&_, cond}
 use mathlib.Core.List.{[], _∷_}
 use Prim.Native.Nat.{ℕ}
 use lib.Dec.{eqb}
-use Rattle.kinds.specs.Membership.{pick, oneOf}
+use Rattle.kinds.specs.Membership.{oneOf}
 use Rattle.kinds.specs.Kinds.{SEMICOLON, COMMA, L-PAREN, R-PAREN, L-BRACK, R-BRACK, L-CURLY, R-CURLY, AT, IDENT, HARDWAREIDENT, STRING, BOX-KW, MEASURE-KW, RETURN-KW, INV-KW, POW-KW, CTRL-KW, NEGCTRL-KW, GPHASE-KW, LITERAL, TIMING-LITERAL, CAST-EXPRESSION, G-PHASE-CALL-EXPR, INV-MODIFIER, POW-MODIFIER, CTRL-MODIFIER, NEG-CTRL-MODIFIER, PAREN-EXPR, TUPLE-EXPR, MODIFIED-GATE-CALL-EXPR, GATE-CALL-EXPR, MEASURE-EXPRESSION, IDENTIFIER, HARDWARE-QUBIT, ARRAY-EXPR, BLOCK-EXPR, RETURN-EXPR, BOX-EXPR}
 use Rattle.kinds.specs.Sets.{LITERAL-FIRST, TIMING-LITERAL-FIRST, EXPR-FIRST, CLASSICAL-TYPES, QUBIT-FIRST}
 use Rattle.kinds.specs.Messages.{UNEXPECTED-STRING-LITERAL, TIMING-AND-IMAGINARY-LITERALS-MUST-BEGIN-WITH, ATOM-EXPR-EXPECTED-EXPRESSION, MODIFIER-INV-ACCEPTS-NO-PARAMETER-EXPECTING-AT, EXPECTING-AT, EXPECTING-ARGUMENT-TO-POW-GATE-MODIFIER, EXPECTING-QUBIT-S-TO-MEASURE, EXPECTED-EXPRESSION-FOUND-COMMA-INSTEAD, EXPECTED-A-BLOCK}
@@ -53,11 +53,11 @@ node m = do
 unfoldable pub literal : Acts Got
 literal = do
   first ← atTs LITERAL-FIRST
-  pick first (do
+  cond first (do
     failIfAt STRING UNEXPECTED-STRING-LITERAL
     m ← start
     k ← nth 1
-    pick (eqb k IDENT) (do
+    cond (eqb k IDENT) (do
       timing
       m2 ← start
       bumpAny
@@ -75,9 +75,9 @@ invModifier = do
   m1 ← start
   bump INV-KW
   b ← at AT
-  pick b (bump AT) (do
+  cond b (bump AT) (do
     b ← at L-PAREN
-    pick b (fail MODIFIER-INV-ACCEPTS-NO-PARAMETER-EXPECTING-AT) (fail EXPECTING-AT))
+    cond b (fail MODIFIER-INV-ACCEPTS-NO-PARAMETER-EXPECTING-AT) (fail EXPECTING-AT))
   just (complete m1 INV-MODIFIER)
 
 -- a modifier that has no argument
@@ -94,12 +94,12 @@ tupleComma = do
 unfoldable pub tupleNext : Bool → Acts Bool
 tupleNext comma = do
   b ← at R-PAREN
-  pick b (done comma) (do
+  cond b (done comma) (do
     expect COMMA
     done true)
 
 unfoldable pub tupleKind : Bool → Bool → ℕ
-tupleKind saw comma = pick (saw && not comma) PAREN-EXPR TUPLE-EXPR
+tupleKind saw comma = cond (saw && not comma) PAREN-EXPR TUPLE-EXPR
 
 unfoldable pub tupleEnd : ℕ → Bool → Bool → Acts Completed
 tupleEnd m saw comma = do
@@ -108,16 +108,16 @@ tupleEnd m saw comma = do
 
 -- fn array_expr, line 310: what follows an element, and its end
 unfoldable pub firstSemicolon : Bool → Acts Bool
-firstSemicolon first = pick first (eat SEMICOLON) (done false)
+firstSemicolon first = cond first (eat SEMICOLON) (done false)
 
 unfoldable pub arrayNext : Bool → Bool → Acts Next
 arrayNext first semi = do
   now ← firstSemicolon first
-  pick now (done Semi) (pick semi (done Stop) (do
+  cond now (done Semi) (cond semi (done Stop) (do
     b ← at R-BRACK
-    pick b (done Comma) (do
+    cond b (done Comma) (do
       comma ← expect COMMA
-      pick comma (done Comma) (done Stop))))
+      cond comma (done Comma) (done Stop))))
 
 unfoldable pub arrayEnd : ℕ → Acts Completed
 arrayEnd m = do
@@ -160,7 +160,7 @@ module _ (deeper : Counted) where
     m1 ← start
     bump kw
     b ← at L-PAREN
-    pick b (do
+    cond b (do
       m2 ← start
       expect L-PAREN
       expr deeper
@@ -173,17 +173,17 @@ module _ (deeper : Counted) where
   unfoldable pub modifiedGateCallExprRound : Unit {0} → Acts (Turn (Unit {0}))
   modifiedGateCallExprRound x = do
     k ← current
-    pick (eqb k INV-KW) (invModifier >> done (more tt))
-        (pick (eqb k POW-KW) (modifier POW-KW POW-MODIFIER >> done (more tt))
-        (pick (eqb k CTRL-KW) (modifier CTRL-KW CTRL-MODIFIER >> done (more tt))
-        (pick (eqb k NEGCTRL-KW) (modifier NEGCTRL-KW NEG-CTRL-MODIFIER >> done (more tt)) (done (last tt)))))
+    cond (eqb k INV-KW) (invModifier >> done (more tt))
+        (cond (eqb k POW-KW) (modifier POW-KW POW-MODIFIER >> done (more tt))
+        (cond (eqb k CTRL-KW) (modifier CTRL-KW CTRL-MODIFIER >> done (more tt))
+        (cond (eqb k NEGCTRL-KW) (modifier NEGCTRL-KW NEG-CTRL-MODIFIER >> done (more tt)) (done (last tt)))))
 
   unfoldable pub modifiedGateCallExpr : Acts Completed
   modifiedGateCallExpr = do
     m ← start
     repeats modifiedGateCallExprRound tt
     b ← at GPHASE-KW
-    pick b gphaseCallExpr gateCallExpr
+    cond b gphaseCallExpr gateCallExpr
     complete m MODIFIED-GATE-CALL-EXPR
 
   -- fn measure_expression, line 224
@@ -192,7 +192,7 @@ module _ (deeper : Counted) where
     m ← start
     bump MEASURE-KW
     k ← current
-    pick (oneOf QUBIT-FIRST k) (do
+    cond (oneOf QUBIT-FIRST k) (do
       m1 ← start
       just (argGateCallQubit deeper m1)) (fail EXPECTING-QUBIT-S-TO-MEASURE)
     complete m MEASURE-EXPRESSION
@@ -201,7 +201,7 @@ module _ (deeper : Counted) where
   unfoldable pub tupleExprRound : Bool × Bool → Acts (Turn (Bool × Bool))
   tupleExprRound x = do
     go ← goesOn R-PAREN
-    pick go (do
+    cond go (do
       g ← expr deeper
       elim g [
         | Nothing ↦ done (last (true, x .1))
@@ -223,7 +223,7 @@ module _ (deeper : Counted) where
   unfoldable pub arrayExprRound : Bool × Bool → Acts (Turn (Bool × Bool))
   arrayExprRound x = do
     go ← goesOn R-BRACK
-    pick go (do
+    cond go (do
       g ← expr deeper
       elim g [
         | Nothing ↦ done (last x)
@@ -258,7 +258,7 @@ module _ (deeper : Counted) where
   unfoldable pub tryBlockExpr : Acts (Unit {0})
   tryBlockExpr = do
     b ← at L-CURLY
-    pick b (just blockExpr) (fail EXPECTED-A-BLOCK)
+    cond b (just blockExpr) (fail EXPECTED-A-BLOCK)
 
   -- fn return_expr, line 347
   unfoldable pub returnExpr : Acts Completed
@@ -283,17 +283,17 @@ module _ (deeper : Counted) where
   -- fn atom_expr, line 80: the match on the token here, of which `la` is the next
   unfoldable pub atomOf : ℕ → ℕ → Acts Got
   atomOf k la =
-      pick (eqb k HARDWAREIDENT) (node hardwareQubit)
-      (pick (eqb k L-PAREN) (node tupleExpr)
-      (pick (eqb k L-BRACK) (node arrayExpr)
-      (pick (eqb k BOX-KW) (node boxExpr)
-      (pick (eqb k MEASURE-KW) (node measureExpression)
-      (pick (eqb k RETURN-KW) (node returnExpr)
-      (pick (eqb k L-CURLY) (node blockExpr)
-      (pick (oneOf (INV-KW ∷ POW-KW ∷ CTRL-KW ∷ NEGCTRL-KW ∷ []) k) (node modifiedGateCallExpr)
-      (pick (eqb k GPHASE-KW) (node gphaseCallExpr)
-      (pick (eqb k IDENT && oneOf QUBIT-FIRST la) (node gateCallExpr)
-      (pick (eqb k IDENT) (node identifier) (do
+      cond (eqb k HARDWAREIDENT) (node hardwareQubit)
+      (cond (eqb k L-PAREN) (node tupleExpr)
+      (cond (eqb k L-BRACK) (node arrayExpr)
+      (cond (eqb k BOX-KW) (node boxExpr)
+      (cond (eqb k MEASURE-KW) (node measureExpression)
+      (cond (eqb k RETURN-KW) (node returnExpr)
+      (cond (eqb k L-CURLY) (node blockExpr)
+      (cond (oneOf (INV-KW ∷ POW-KW ∷ CTRL-KW ∷ NEGCTRL-KW ∷ []) k) (node modifiedGateCallExpr)
+      (cond (eqb k GPHASE-KW) (node gphaseCallExpr)
+      (cond (eqb k IDENT && oneOf QUBIT-FIRST la) (node gateCallExpr)
+      (cond (eqb k IDENT) (node identifier) (do
         errAndBump ATOM-EXPR-EXPECTED-EXPRESSION
         done Nothing)))))))))))
 
@@ -305,7 +305,7 @@ module _ (deeper : Counted) where
       | Nothing ↦ (do
         la ← nth 1
         k ← current
-        pick (oneOf CLASSICAL-TYPES k) (do
+        cond (oneOf CLASSICAL-TYPES k) (do
           cm ← castExpr
           done (Is cm false)) (do
             k ← current

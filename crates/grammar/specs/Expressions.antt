@@ -1,8 +1,8 @@
 -- src/grammar/expressions.rs. Each definition has the name of its function there. Assumes nothing: these are definitions.
-use mathlib.Core.Bool.{Bool, true, false, not, _&&_}
+use mathlib.Core.Bool.{Bool, true, false, not, _&&_, cond}
 use Prim.Native.Nat.{ℕ}
 use lib.Dec.{eqb, ltb}
-use Rattle.kinds.specs.Membership.{pick, oneOf}
+use Rattle.kinds.specs.Membership.{oneOf}
 use Rattle.kinds.specs.Kinds.{SEMICOLON, COMMA, COLON, EQ, L-PAREN, R-PAREN, L-BRACK, R-BRACK, L-CURLY, R-CURLY, IDENT, HARDWAREIDENT, PRAGMA, ANNOTATION, LET-KW, ARRAY-KW, QUBIT-KW, COMPLEX-TY, FLOAT-TY, RANGE-EXPR, PRAGMA-STATEMENT, ANNOTATION-STATEMENT, ASSIGNMENT-STMT, EXPR-STMT, LET-STMT, IDENTIFIER, INDEXED-IDENTIFIER, BIN-EXPR, PREFIX-EXPR, GATE-CALL-EXPR, CALL-EXPR, ARRAY-TYPE, SCALAR-TYPE, QUBIT-TYPE, DESIGNATOR, NAME, INDEX-EXPR, SET-EXPRESSION, INDEX-OPERATOR, EXPRESSION-LIST, ARG-LIST}
 use Rattle.kinds.specs.Sets.{EXPR-FIRST, EXPR-RECOVERY-SET, CLASSICAL-TYPES, TYPES, QUBIT-FIRST, PREFIX-OPS, CAST-NEXT, ASSIGNABLE, UNINDEXED, ARRAY-BASES, NO-INTEGERS}
 use Rattle.kinds.specs.Messages.{EXPECTING-COLON-IN-RANGE-EXPRESSION, STMT-EXPECTED-EXPRESSION-TYPE-DECLARATION-OR-LET, EXPECTING-SEMICOLON-TERMINATING-STATEMENT, EXPR-BP-EXPECTED-EXPRESSION, ASSIGNMENT-STATEMENT-FOUND-WHERE-EXPRESSION-EXPECTED, ILLEGAL-LHS-IN-ASSIGNMENT, INDEXING-INTO-LITERAL-IS-NOT-ALLOWED, EXPECTED-TYPE-NAME, ILLEGAL-BASE-TYPE-FOR-ARRAY, EXPECTING-FLOAT-IN-COMPLEX-DESIGNATOR, FOUND-DESIGNATOR-IN-HARDWARE-QUBIT-DECLARATION, LITERAL-TYPE-DESIGNATOR-MUST-BE-AN-INTEGER, EXPECTING-PARAMETER-NAME}
@@ -28,7 +28,7 @@ pub record Later : Type 0 where
 unfoldable pub typeName : Acts (Unit {0})
 typeName = do
   k ← current
-  pick (oneOf TYPES k) (do
+  cond (oneOf TYPES k) (do
     k ← current
     bump k) (fail EXPECTED-TYPE-NAME)
 
@@ -41,9 +41,9 @@ marker Fresh = start
 unfoldable pub lacksExpr : Acts Bool
 lacksExpr = do
   first ← atTs EXPR-FIRST
-  pick first (done false) (do
+  cond first (done false) (do
     k ← current
-    pick (oneOf CLASSICAL-TYPES k) (do
+    cond (oneOf CLASSICAL-TYPES k) (do
       k ← nth 1
       done (not (oneOf CAST-NEXT k))) (done true))
 
@@ -56,9 +56,9 @@ noAssignment prefer = when (not prefer) (fail ASSIGNMENT-STATEMENT-FOUND-WHERE-E
 
 unfoldable pub closeOp : Bool → ℕ → ℕ → ℕ → Acts Completed
 closeOp prefer lhsKind op m =
-    pick (eqb op EQ) (do
+    cond (eqb op EQ) (do
       noAssignment prefer
-      pick (oneOf ASSIGNABLE lhsKind) (do
+      cond (oneOf ASSIGNABLE lhsKind) (do
         assigned prefer
         complete m ASSIGNMENT-STMT) (do
           fail ILLEGAL-LHS-IN-ASSIGNMENT
@@ -68,9 +68,9 @@ closeOp prefer lhsKind op m =
 unfoldable pub castAhead : Acts Bool
 castAhead = do
   k ← current
-  pick (oneOf CLASSICAL-TYPES k) (do
+  cond (oneOf CLASSICAL-TYPES k) (do
     k ← nth 1
-    pick (eqb k L-PAREN) (done true) (do
+    cond (eqb k L-PAREN) (done true) (do
       k ← nth 1
       done (eqb k L-BRACK))) (done false)
 
@@ -78,7 +78,7 @@ castAhead = do
 abbrev neither : Acts Bool → Acts Bool → Acts Bool
 neither a b = do
   x ← a
-  pick x (done false) (do
+  cond x (done false) (do
     y ← b
     done (not y))
 
@@ -91,9 +91,9 @@ noSemicolon block semi = when (not block && not semi) (fail EXPECTING-SEMICOLON-
 
 unfoldable pub stmtEnd : Completed → Bool → Acts (Unit {0})
 stmtEnd cm block =
-    pick (eqb (cm .kind) ASSIGNMENT-STMT) (done tt) (do
+    cond (eqb (cm .kind) ASSIGNMENT-STMT) (done tt) (do
       b ← at R-CURLY
-      pick b (done tt) (do
+      cond b (done tt) (do
         m ← precede cm
         semi ← eat SEMICOLON
         noSemicolon block semi
@@ -103,7 +103,7 @@ stmtEnd cm block =
 unfoldable pub literalDesignator : Acts (Unit {0})
 literalDesignator = do
   k ← current
-  pick (oneOf NO-INTEGERS k) (do
+  cond (oneOf NO-INTEGERS k) (do
     k ← nth 1
     when (eqb k R-BRACK) (fail LITERAL-TYPE-DESIGNATOR-MUST-BE-AN-INTEGER)) (done tt)
 
@@ -129,7 +129,7 @@ unfoldable pub varName : Acts (Unit {0})
 varName = do
   m ← start
   b ← at IDENT
-  pick b bumpAny (fail EXPECTING-PARAMETER-NAME)
+  cond b bumpAny (fail EXPECTING-PARAMETER-NAME)
   just (complete m NAME)
 
 module _ (deeper : Counted) where
@@ -145,7 +145,7 @@ module _ (deeper : Counted) where
     bump L-BRACK
     deeper .exprBp Fresh false 1
     b ← at COLON
-    pick b (do
+    cond b (do
       bump COLON
       deeper .exprBp Fresh false 1
       b ← at COLON
@@ -161,7 +161,7 @@ module _ (deeper : Counted) where
     m ← start
     deeper .exprBp Fresh false 1
     b ← at COLON
-    pick b (do
+    cond b (do
       bump COLON
       deeper .exprBp Fresh false 1
       b ← at COLON
@@ -188,7 +188,7 @@ module _ (deeper : Counted) where
   unfoldable pub exprBlockContentsRound : Unit {0} → Acts (Turn (Unit {0}))
   exprBlockContentsRound x = do
     go ← goesOn R-CURLY
-    pick go (do
+    cond go (do
       deeper .stmt
       done (more tt)) (done (last tt))
 
@@ -210,7 +210,7 @@ module _ (deeper : Counted) where
   unfoldable pub nonArrayTypeSpec : Acts (Unit {0})
   nonArrayTypeSpec = do
     b ← at COMPLEX-TY
-    pick b (deeper .complexTypeSpec) (do
+    cond b (deeper .complexTypeSpec) (do
       m ← start
       typeName
       b ← at L-BRACK
@@ -223,12 +223,12 @@ module _ (deeper : Counted) where
   arrayTypeSpecRound x = do
     expr
     b ← at R-BRACK
-    pick b (do
+    cond b (do
       bumpAny
       done (last tt)) (do
         expect COMMA
         over ← isRefused
-        pick over (done (last tt)) (done (more tt)))
+        cond over (done (last tt)) (done (more tt)))
 
   unfoldable pub arrayTypeSpec : Acts (Unit {0})
   arrayTypeSpec = do
@@ -246,7 +246,7 @@ module _ (deeper : Counted) where
   unfoldable pub typeSpec : Acts (Unit {0})
   typeSpec = do
     b ← at ARRAY-KW
-    pick b arrayTypeSpec nonArrayTypeSpec
+    cond b arrayTypeSpec nonArrayTypeSpec
 
   -- fn complex_type_spec, line 428
   unfoldable pub complexTypeSpec : Acts (Unit {0})
@@ -291,7 +291,7 @@ module _ (deeper : Counted) where
     m ← start
     expect L-BRACK
     b ← at L-CURLY
-    pick b setExpression (deeper .expressionList)
+    cond b setExpression (deeper .expressionList)
     expect R-BRACK
     just (complete m INDEX-OPERATOR)
 
@@ -308,7 +308,7 @@ module _ (deeper : Counted) where
   unfoldable pub indexedIdentifierRound : Unit {0} → Acts (Turn (Unit {0}))
   indexedIdentifierRound x = do
     b ← at L-BRACK
-    pick b (do
+    cond b (do
       indexOperator
       done (more tt)) (done (last tt))
 
@@ -322,7 +322,7 @@ module _ (deeper : Counted) where
   -- the arm of fn postfix_expr, line 331, at `[`
   unfoldable pub indexed : Completed → Acts Completed
   indexed lhs =
-      pick (eqb (lhs .kind) IDENTIFIER) (indexedIdentifier lhs) (do
+      cond (eqb (lhs .kind) IDENTIFIER) (indexedIdentifier lhs) (do
         unindexed (lhs .kind)
         indexExpr lhs)
 
@@ -344,7 +344,7 @@ module _ (deeper : Counted) where
       m ← precede lhs
       callArgList
       k ← current
-      pick (oneOf QUBIT-FIRST k) (do
+      cond (oneOf QUBIT-FIRST k) (do
         later .argListGateCallQubits
         complete m GATE-CALL-EXPR) (complete m CALL-EXPR)
 
@@ -353,9 +353,9 @@ module _ (deeper : Counted) where
     unfoldable pub postfixExprRound : Completed × Bool × Bool → Acts (Turn (Completed × Bool × Bool))
     postfixExprRound x = do
       k ← current
-      pick (x .2) (pick (eqb k L-PAREN) (do
+      cond (x .2) (cond (eqb k L-PAREN) (do
         cm ← callExpr (x .0)
-        done (more (cm, false, true))) (pick (eqb k L-BRACK) (do
+        done (more (cm, false, true))) (cond (eqb k L-BRACK) (do
           cm ← indexed (x .0)
           done (more (cm, false, true))) (done (last x)))) (done (last x))
 
@@ -368,7 +368,7 @@ module _ (deeper : Counted) where
     unfoldable pub lhs : Bool → Acts Got
     lhs prefer = do
       k ← current
-      pick (oneOf PREFIX-OPS k) (do
+      cond (oneOf PREFIX-OPS k) (do
         m ← start
         bumpAny
         deeper .exprBp Fresh prefer 255
@@ -382,7 +382,7 @@ module _ (deeper : Counted) where
       unfoldable pub exprBpRound : Bool → ℕ → Completed → Acts (Turn Completed)
       exprBpRound prefer bp lhs = do
         o ← currentOp ops
-        pick (ltb (o .power) bp) (done (last lhs)) (do
+        cond (ltb (o .power) bp) (done (last lhs)) (do
           m ← precede lhs
           bump (o .kind)
           deeper .exprBp Fresh false (o .next)
@@ -393,7 +393,7 @@ module _ (deeper : Counted) where
       exprBp given prefer bp = do
         m ← marker given
         lacks ← lacksExpr
-        pick lacks (do
+        cond lacks (do
           errRecover EXPR-BP-EXPECTED-EXPRESSION EXPR-RECOVERY-SET
           abandon m
           done Nothing) (do
@@ -404,7 +404,7 @@ module _ (deeper : Counted) where
                 done Nothing)
               | Is cm block ↦ (do
                 cm ← extendTo cm m
-                pick (prefer && block) (done (Is cm true)) (do
+                cond (prefer && block) (done (Is cm true)) (do
                   cm ← repeats (exprBpRound prefer bp) cm
                   done (Is cm false)))
             ])
@@ -413,24 +413,24 @@ module _ (deeper : Counted) where
     unfoldable pub stmt : Acts (Unit {0})
     stmt = do
       b ← eat SEMICOLON
-      pick b (done tt) (do
+      cond b (done tt) (do
         b ← at LET-KW
-        pick b (do
+        cond b (do
           m ← start
           letStmt m) (do
             m ← start
             item ← later .optItem m
-            pick item (done tt) (do
+            cond item (done tt) (do
               b ← at PRAGMA
-              pick b (do
+              cond b (do
                 bumpAny
                 just (complete m PRAGMA-STATEMENT)) (do
                   b ← at ANNOTATION
-                  pick b (do
+                  cond b (do
                     bumpAny
                     just (complete m ANNOTATION-STATEMENT)) (do
                       lacks ← stmtLacksExpr
-                      pick lacks (do
+                      cond lacks (do
                         errAndBump STMT-EXPECTED-EXPRESSION-TYPE-DECLARATION-OR-LET
                         abandon m) (do
                           g ← exprStmt (Given m)

@@ -1,10 +1,10 @@
 -- src/grammar.rs: what the files of the grammar share. Each definition has the name of its function there.
 -- Assumes nothing: these are definitions.
-use mathlib.Core.Bool.{Bool, true, false, not}
+use mathlib.Core.Bool.{Bool, true, false, not, cond}
 use mathlib.Core.List.{List}
 use Prim.Native.Nat.{ℕ}
 use lib.Dec.{eqb}
-use Rattle.kinds.specs.Membership.{pick, oneOf}
+use Rattle.kinds.specs.Membership.{oneOf}
 use Rattle.kinds.specs.Kinds.{THIN-ARROW, IDENT, HARDWAREIDENT, HARDWARE-QUBIT, NAME, RETURN-SIGNATURE, BLOCK-EXPR}
 use Rattle.kinds.specs.Sets.{EMPTY, SCALAR-TYPES, TYPES}
 use Rattle.kinds.specs.Messages.{EXPECTED, EXPECTED-SCALAR-RETURN-TYPE-AFTER-ARROW, EXPECTED-A-NAME}
@@ -25,7 +25,7 @@ pub record Counted : Type 0 where
 
 -- `if c { m }`
 abbrev pub when : Bool → Acts (Unit {0}) → Acts (Unit {0})
-when c m = pick c m (done tt)
+when c m = cond c m (done tt)
 
 -- `m;`: the answer is not read
 abbrev pub just : {A : Type 0} → Acts A → Acts (Unit {0})
@@ -67,12 +67,12 @@ isBlocklike k = eqb k BLOCK-EXPR
 unfoldable pub nameR : List ℕ → Acts (Unit {0})
 nameR recovery = do
   b ← at HARDWAREIDENT
-  pick b (do
+  cond b (do
     m ← start
     bump HARDWAREIDENT
     just (complete m HARDWARE-QUBIT)) (do
       b ← at IDENT
-      pick b (do
+      cond b (do
         m ← start
         bump IDENT
         just (complete m NAME)) (errRecover EXPECTED-A-NAME recovery))
@@ -86,11 +86,11 @@ name = nameR EMPTY
 unfoldable pub separator : ℕ → List ℕ → Acts Bool
 separator delim first = do
   b ← at delim
-  pick b (do
+  cond b (do
     bump delim
     done true) (do
       b ← atTs first
-      pick b (do
+      cond b (do
         error EXPECTED delim
         done true) (done false))
 
@@ -102,11 +102,11 @@ isSome Nothing = false
 unfoldable pub delimitedRound : ℕ → ℕ → List ℕ → Acts Got → Unit {0} → Acts (Turn (Unit {0}))
 delimitedRound ket delim first parser x = do
   go ← goesOn ket
-  pick go (do
+  cond go (do
     g ← parser
-    pick (isSome g) (do
+    cond (isSome g) (do
       another ← separator delim first
-      pick another (done (more tt)) (done (last tt))) (done (last tt))) (done (last tt))
+      cond another (done (more tt)) (done (last tt))) (done (last tt))) (done (last tt))
 
 unfoldable pub delimited : ℕ → ℕ → Bool → ℕ → List ℕ → Acts Got → Acts (Unit {0})
 delimited bra ket consume delim first parser = do
@@ -130,6 +130,6 @@ module _ (deeper : Counted) where
       bump THIN-ARROW
       scalarReturn
       k ← current
-      pick (oneOf TYPES k) (do
+      cond (oneOf TYPES k) (do
         deeper .typeSpec
         just (complete m RETURN-SIGNATURE)) (abandon m))

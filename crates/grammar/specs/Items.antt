@@ -1,9 +1,9 @@
 -- src/grammar/items.rs. Each definition has the name of its function there. Assumes nothing: these are definitions.
-use mathlib.Core.Bool.{Bool, true, false, not, _&&_}
+use mathlib.Core.Bool.{Bool, true, false, not, _&&_, cond}
 use mathlib.Core.List.{List, [], _∷_}
 use Prim.Native.Nat.{ℕ}
 use lib.Dec.{eqb}
-use Rattle.kinds.specs.Membership.{pick, oneOf}
+use Rattle.kinds.specs.Membership.{oneOf}
 use Rattle.kinds.specs.Kinds.{EOF, SEMICOLON, L-PAREN, R-PAREN, L-BRACK, L-CURLY, R-CURLY, EQ, HARDWAREIDENT, STRING, FLOAT-NUMBER, QUBIT-KW, CONST-KW, GATE-KW, BREAK-KW, CONTINUE-KW, END-KW, IF-KW, ELSE-KW, WHILE-KW, FOR-KW, IN-KW, DEF-KW, DEFCAL-KW, CAL-KW, DEFCALGRAMMAR-KW, RESET-KW, BARRIER-KW, O-P-E-N-Q-A-S-M-KW, INCLUDE-KW, SWITCH-KW, CASE-KW, DEFAULT-KW, LET-KW, DELAY-KW, INPUT-KW, OUTPUT-KW, ERROR, CASE-EXPR, SWITCH-CASE-STMT, IF-STMT, WHILE-STMT, FOR-ITERABLE, FOR-STMT, QUANTUM-DECLARATION-STATEMENT, RESET, BREAK-STMT, CONTINUE-STMT, END-STMT, GATE, DEF-CAL, CAST-EXPRESSION, EXPR-STMT, CLASSICAL-DECLARATION-STATEMENT, I-O-DECLARATION-STATEMENT, DEF, FILE-PATH, DEF-CAL-GRAMMAR, INCLUDE, CAL, VERSION, VERSION-STRING, BARRIER, DELAY-STMT, ALIAS-DECLARATION-STATEMENT}
 use Rattle.kinds.specs.Sets.{ITEM-RECOVERY-SET, CLASSICAL-TYPES, QUBIT-FIRST}
 use Rattle.kinds.specs.Messages.{EXPECTED-STATEMENT-FOUND-SEMICOLON, UNMATCHED-R-CURLY, EXPECTING-CASE-KEYWORD, EXPECTING-NAME-OF-QUBIT-OR-REGISTER-TO, QUANTUM-TYPE-FOUND-IN-INPUT-OUTPUT-DECLARATION, EXPECTED-FUNCTION-ARGUMENTS-IN-DEF, EXPECTED-A-PATH-TO-A-FILE}
@@ -40,7 +40,7 @@ end m = do
 unfoldable pub filepathR : List ℕ → Acts (Unit {0})
 filepathR recovery = do
   b ← at STRING
-  pick b (do
+  cond b (do
     m ← start
     bump STRING
     just (complete m FILE-PATH)) (errRecover EXPECTED-A-PATH-TO-A-FILE recovery)
@@ -63,7 +63,7 @@ include m = do
 
 -- the test of fn version_, line 400
 unfoldable pub skipToSemicolon : Bool → Acts (Unit {0})
-skipToSemicolon number = pick number (done tt) (do
+skipToSemicolon number = cond number (done tt) (do
   b ← at SEMICOLON
   when (not b) bumpAny)
 
@@ -93,7 +93,7 @@ ioType = do
 unfoldable pub qubitEnd : ℕ → Acts (Unit {0})
 qubitEnd m = do
   b ← at HARDWAREIDENT
-  pick b (just hardwareQubit) varName
+  cond b (just hardwareQubit) varName
   expect SEMICOLON
   just (complete m QUANTUM-DECLARATION-STATEMENT)
 
@@ -106,7 +106,7 @@ module _ (deeper : Counted) where
   unfoldable pub switchCaseStmtRound : Unit {0} → Acts (Turn (Unit {0}))
   switchCaseStmtRound x = do
     b ← at CASE-KW
-    pick b (do
+    cond b (do
       m1 ← start
       bump CASE-KW
       deeper .expressionList
@@ -142,7 +142,7 @@ module _ (deeper : Counted) where
     when b (do
       bump ELSE-KW
       b ← at IF-KW
-      pick b (do
+      cond b (do
         m ← start
         deeper .ifStmt m) (tryBlockExpr deeper))
     just (complete m IF-STMT)
@@ -163,7 +163,7 @@ module _ (deeper : Counted) where
   forRest m m1 = do
     complete m1 FOR-ITERABLE
     b ← at L-CURLY
-    pick b (just (blockExpr deeper)) (deeper .stmt)
+    cond b (just (blockExpr deeper)) (deeper .stmt)
     just (complete m FOR-STMT)
 
   -- fn for_stmt, line 162
@@ -176,9 +176,9 @@ module _ (deeper : Counted) where
     expect IN-KW
     m1 ← start
     b ← at L-CURLY
-    pick b (setExpression deeper) (do
+    cond b (setExpression deeper) (do
       b ← at L-BRACK
-      pick b (rangeExpr deeper) (just (expr deeper)))
+      cond b (rangeExpr deeper) (just (expr deeper)))
     forRest m m1
 
   -- fn qubit_declaration_stmt, line 189
@@ -193,7 +193,7 @@ module _ (deeper : Counted) where
   resetStmt m = do
     bump RESET-KW
     k ← current
-    pick (oneOf QUBIT-FIRST k) (do
+    cond (oneOf QUBIT-FIRST k) (do
       m1 ← start
       argGateCallQubit deeper m1
       expect SEMICOLON
@@ -236,21 +236,21 @@ module _ (deeper : Counted) where
     mexpr ← start
     deeper .typeSpec
     k ← current
-    pick (eqb k L-PAREN) (do
+    cond (eqb k L-PAREN) (do
       expect L-PAREN
       expr deeper
       expect R-PAREN
       complete mexpr CAST-EXPRESSION
       b ← at SEMICOLON
-      pick b (do
+      cond b (do
         expect SEMICOLON
         just (complete m EXPR-STMT)) (abandon m)) (do
           abandon mexpr
           varName
           b ← eat SEMICOLON
-          pick b (just (complete m CLASSICAL-DECLARATION-STATEMENT)) (do
+          cond b (just (complete m CLASSICAL-DECLARATION-STATEMENT)) (do
             b ← expect EQ
-            pick b (do
+            cond b (do
               expr deeper
               expect SEMICOLON
               just (complete m CLASSICAL-DECLARATION-STATEMENT)) (abandon m)))
@@ -272,7 +272,7 @@ module _ (deeper : Counted) where
     bumpAny
     nameR ITEM-RECOVERY-SET
     b ← at L-PAREN
-    pick b (paramListDefParams deeper) (fail EXPECTED-FUNCTION-ARGUMENTS-IN-DEF)
+    cond b (paramListDefParams deeper) (fail EXPECTED-FUNCTION-ARGUMENTS-IN-DEF)
     signature m DEF
 
   -- fn cal_, line 386
@@ -344,7 +344,7 @@ module _ (deeper : Counted) where
 
   abbrev pub beginning : List (ℕ × Acts (Unit {0})) → ℕ → Acts Bool
   beginning [] k = done false
-  beginning (r ∷ rs) k = pick (eqb k (r .0)) (r .1 >> done true) (beginning rs k)
+  beginning (r ∷ rs) k = cond (eqb k (r .0)) (r .1 >> done true) (beginning rs k)
 
   -- the arms of fn opt_item from line 96 on
   abbrev pub optItemMore : ℕ → ℕ → Acts Bool
@@ -355,7 +355,7 @@ module _ (deeper : Counted) where
   optItem m = do
     la ← nth 1
     k ← current
-    pick (declares k la) (classicalDeclarationStmt m >> done true) (do
+    cond (declares k la) (classicalDeclarationStmt m >> done true) (do
       k ← current
       beginning (statements m) k)
 
@@ -364,16 +364,16 @@ module _ (deeper : Counted) where
   item stopOnRCurly = do
     m ← start
     ok ← optItem m
-    pick ok (do
+    cond ok (do
       b ← at SEMICOLON
       when b (errAndBump EXPECTED-STATEMENT-FOUND-SEMICOLON)) (do
         k ← current
-        pick (eqb k R-CURLY && not stopOnRCurly) (do
+        cond (eqb k R-CURLY && not stopOnRCurly) (do
           abandon m
           e ← start
           fail UNMATCHED-R-CURLY
           bump R-CURLY
-          just (complete e ERROR)) (pick (oneOf (EOF ∷ R-CURLY ∷ []) k) (abandon m) (do
+          just (complete e ERROR)) (cond (oneOf (EOF ∷ R-CURLY ∷ []) k) (abandon m) (do
             abandon m
             exprBlockContents deeper)))
 
@@ -381,9 +381,9 @@ module _ (deeper : Counted) where
   unfoldable pub sourceFileContentsRound : Bool → Unit {0} → Acts (Turn (Unit {0}))
   sourceFileContentsRound stopOnRCurly x = do
     end ← at EOF
-    pick end (done (last tt)) (do
+    cond end (done (last tt)) (do
       b ← at R-CURLY
-      pick (stopOnRCurly && b) (done (last tt)) (do
+      cond (stopOnRCurly && b) (done (last tt)) (do
         item stopOnRCurly
         done (more tt)))
 

@@ -3,7 +3,7 @@
 use mathlib.Core.List.{List, [], _∷_}
 use Prim.Native.Nat.{ℕ, zero, suc, _+_, _-_, _*_}
 use lib.Dec.{eqb}
-use Rattle.kinds.specs.Membership.{pick}
+use mathlib.Core.Bool.{cond}
 use Rattle.kinds.specs.Kinds.{PIPE, PIPE2, PIPEEQ, R-ANGLE, SHREQ, SHR, GTEQ, EQ, FAT-ARROW, EQ2, L-ANGLE, LTEQ, SHLEQ, SHL, PLUS, PLUSEQ, DOUBLE-PLUS, CARET, CARETEQ, PERCENT, PERCENTEQ, AMP, AMPEQ, AMP2, SLASH, SLASHEQ, STAR, STAREQ, DOT, DOT2EQ, DOT2, DOT3, BANG, NEQ, MINUS, MINUSEQ}
 use Rattle.runtime.specs.Acts.{Acts, Acts.done, _>>=_, at, current}
 use Rattle.grammar.specs.declared.expressions.Op.{Op}
@@ -41,11 +41,11 @@ abbrev pub firstAt : List ℕ → ℕ → Acts ℕ
 firstAt [] plain = done plain
 firstAt (k ∷ ks) plain = do
   b ← at k
-  pick b (done k) (firstAt ks plain)
+  cond b (done k) (firstAt ks plain)
 
 abbrev pub armOf : List Guards → ℕ → Acts ℕ
 armOf [] k = done DOT3
-armOf (g ∷ gs) k = pick (eqb k (g .first)) (firstAt (g .tried) (g .plain)) (armOf gs k)
+armOf (g ∷ gs) k = cond (eqb k (g .first)) (firstAt (g .tried) (g .plain)) (armOf gs k)
 
 -- An operator's power, and the least power of its right side: one more where it is left, the same where it is right.
 pub record Power : Type 0 where
@@ -64,7 +64,7 @@ Table = ℕ → Power
 
 abbrev pub listed : List (ℕ × Power) → Table
 listed [] k = left 0
-listed (r ∷ rs) k = pick (eqb k (r .0)) (r .1) (listed rs k)
+listed (r ∷ rs) k = cond (eqb k (r .0)) (r .1) (listed rs k)
 
 -- mode 0: as current_op has them
 abbrev pub crateOrder : List (ℕ × Power)

@@ -1,8 +1,8 @@
 -- src/grammar/params.rs. Each definition has the name of its function there. Assumes nothing: these are definitions.
-use mathlib.Core.Bool.{Bool, true, false, not, _&&_}
+use mathlib.Core.Bool.{Bool, true, false, not, _&&_, cond}
 use Prim.Native.Nat.{ℕ, _+_}
 use lib.Dec.{ltb}
-use Rattle.kinds.specs.Membership.{pick, oneOf}
+use Rattle.kinds.specs.Membership.{oneOf}
 use Rattle.kinds.specs.Kinds.{EOF, SEMICOLON, COMMA, L-PAREN, R-PAREN, L-BRACK, R-BRACK, L-CURLY, THIN-ARROW, IDENT, HARDWAREIDENT, PARAM-LIST, QUBIT-LIST, EXPRESSION-LIST, TYPED-PARAM-LIST, PARAM, TYPED-PARAM, HARDWARE-QUBIT, IDENTIFIER}
 use Rattle.kinds.specs.Sets.{PARAM-FIRST, TYPES}
 use Rattle.kinds.specs.Messages.{EXPECTED-VALUE-PARAMETER, EXPECTED-COMMA, EXPECTED-ONE-OR-MORE-PARAMETERS, EXPECTED-PARAMETER-NAME, EXPECTED-NAME-IN-QUBIT-ARGUMENT}
@@ -21,7 +21,7 @@ use Rattle.grammar.specs.Expressions.{exprOrRangeExpr, varName, indexedI
 unfoldable pub paramUntyped : ℕ → Acts Bool
 paramUntyped m = do
   b ← at IDENT
-  pick b (do
+  cond b (do
     bump IDENT
     complete m PARAM
     done true) (do
@@ -54,40 +54,40 @@ listOpen sh = do
 unfoldable pub atListEnd : Shape → Acts Bool
 atListEnd sh = do
   b ← at (sh .end)
-  pick b (done true) (at (sh .end2))
+  cond b (done true) (at (sh .end2))
 
 -- what that act tells
 abbrev pub endsHere : Env → Parser → Shape → Bool
-endsHere e p sh = pick (sees e p (sh .end)) true (sees e p (sh .end2))
+endsHere e p sh = cond (sees e p (sh .end)) true (sees e p (sh .end2))
 
 -- the test of its loop, line 77, and what it tells
 unfoldable pub listGoes : Shape → Acts Bool
 listGoes sh = do
   end ← at EOF
-  pick end (done false) (do
+  cond end (done false) (do
     end ← atListEnd sh
     done (not end))
 
 abbrev pub goesHere : Env → Parser → Shape → Bool
-goesHere e p sh = pick (sees e p EOF) false (not (endsHere e p sh))
+goesHere e p sh = cond (sees e p EOF) false (not (endsHere e p sh))
 
 -- whether a parameter begins here, line 79
 unfoldable pub paramAhead : Acts Bool
 paramAhead = do
   k ← current
-  pick (oneOf TYPES k) (done true) (atTs PARAM-FIRST)
+  cond (oneOf TYPES k) (done true) (atTs PARAM-FIRST)
 
 -- after a parameter, line 101: whether another one is to follow
 unfoldable pub listNext : Shape → Acts Bool
 listNext sh = do
   end ← atListEnd sh
-  pick end (done false) (do
+  cond end (done false) (do
     b ← at COMMA
-    pick b (do
+    cond b (do
       bump COMMA
       done true) (do
         b ← atTs PARAM-FIRST
-        pick b (do
+        cond b (do
           fail EXPECTED-COMMA
           done true) (done false)))
 
@@ -114,12 +114,12 @@ module _ (deeper : Counted) where
   unfoldable pub argGateCallQubit : ℕ → Acts Bool
   argGateCallQubit m = do
     b ← at HARDWAREIDENT
-    pick b (do
+    cond b (do
       bump HARDWAREIDENT
       complete m HARDWARE-QUBIT
       done true) (do
         b ← at IDENT
-        pick b (do
+        cond b (do
           bump IDENT
           mcomp ← complete m IDENTIFIER
           b ← at L-BRACK
@@ -143,14 +143,14 @@ module _ (deeper : Counted) where
   unfoldable pub paramListOpenqasmRound : Shape → ℕ → Acts (Turn ℕ)
   paramListOpenqasmRound sh n = do
     go ← listGoes sh
-    pick go (do
+    cond go (do
       m ← start
       first ← paramAhead
-      pick first (do
+      cond first (do
         found ← foundParam (sh .how) m
-        pick found (do
+        cond found (do
           another ← listNext sh
-          pick another (done (more (n + 1))) (done (last (n + 1)))) (done (last n))) (do
+          cond another (done (more (n + 1))) (done (last (n + 1)))) (done (last n))) (do
             fail EXPECTED-VALUE-PARAMETER
             abandon m
             done (last n))) (done (last n))

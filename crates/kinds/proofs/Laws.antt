@@ -1,8 +1,8 @@
 -- Words against listings, and the bits of a union. Assumes nothing.
-use mathlib.Core.Path.{_≡_, refl, sym, ap, ap₂, _∙_}
-use mathlib.Core.List.{List, [], _∷_, _++_}
-use mathlib.Core.Bool.{Bool, true, false}
-use Prim.Native.Nat.{ℕ, zero, suc, _+_, _*_, _/_, _%_, _^_, _≤_, _<_, max}
+use mathlib.Core.Path.{_≡_, refl, sym, _∙_}
+use mathlib.Core.List.{List, [], _∷_}
+use mathlib.Core.Bool.{Bool, true, false, cond}
+use Prim.Native.Nat.{ℕ, zero, suc, _*_, _/_, _%_, _^_, _≤_, _<_, max}
 use native.Mathlib.Nat.{zero-div}
 use native.Mathlib.Omega.{arith}
 use lib.Arith.{digits-mod}
@@ -10,7 +10,7 @@ use lib.Bits.{bitOr, or-step, or-shr}
 use lib.Dec.{T, ltb, eqb, ltb→lt}
 use lib.ListN.{length, getD, List·getD-eq-default}
 use borrow.Author.Tests.{ltb-true, ltb-false, eqb-true, eqb-false, ne-eqb}
-use Rattle.kinds.specs.Membership.{pick, bit, oneOf, either}
+use Rattle.kinds.specs.Membership.{both, bit, oneOf, either}
 
 -- two functions that agree everywhere are equal
 everywhere : {f g : ℕ → Bool} → ((k : ℕ) → f k ≡ g k) → f ≡ g
@@ -28,16 +28,13 @@ bit-in ws i k h e = rw h e
 
 -- ---- the computed test: words of 64 bits hold exactly the kinds that are listed
 
-abbrev pub both : Bool → Bool → Bool
-both a b = pick a b false
-
 pub both-parts : (a b : Bool) → T (both a b) → T a × T b
 both-parts true b t = (tt, t)
 both-parts false b t = absurd t
 
 abbrev pub same : Bool → Bool → Bool
 same true b = b
-same false b = pick b false true
+same false b = cond b false true
 
 same-eq : (a b : Bool) → T (same a b) → a ≡ b
 same-eq true true t = refl
@@ -87,7 +84,7 @@ exactly ws ks t = everywhere (λ k. by k (ltb k (64 * length ws)) refl)
 -- ---- the bits of a union
 
 -- the larger of two digits is 1 where one of them is
-digit-or : (x y : ℕ) → x < 2 → y < 2 → (max x y < 2) × (eqb (max x y) 1 ≡ pick (eqb x 1) true (eqb y 1))
+digit-or : (x y : ℕ) → x < 2 → y < 2 → (max x y < 2) × (eqb (max x y) 1 ≡ cond (eqb x 1) true (eqb y 1))
 digit-or zero zero hx hy = (omega arith, refl)
 digit-or zero (suc zero) hx hy = (omega arith, refl)
 digit-or (suc zero) zero hx hy = (omega arith, refl)
@@ -96,9 +93,9 @@ digit-or (suc (suc x)) y hx hy = absurd (omega arith)
 digit-or zero (suc (suc y)) hx hy = absurd (omega arith)
 digit-or (suc zero) (suc (suc y)) hx hy = absurd (omega arith)
 
-odd-or : (a b : ℕ) → eqb (bitOr a b % 2) 1 ≡ pick (eqb (a % 2) 1) true (eqb (b % 2) 1)
+odd-or : (a b : ℕ) → eqb (bitOr a b % 2) 1 ≡ cond (eqb (a % 2) 1) true (eqb (b % 2) 1)
 odd-or a b =
-    let digits : (max (a % 2) (b % 2) < 2) × (eqb (max (a % 2) (b % 2)) 1 ≡ pick (eqb (a % 2) 1) true (eqb (b % 2) 1)) = digit-or (a % 2) (b % 2) (omega arith) (omega arith) in
+    let digits : (max (a % 2) (b % 2) < 2) × (eqb (max (a % 2) (b % 2)) 1 ≡ cond (eqb (a % 2) 1) true (eqb (b % 2) 1)) = digit-or (a % 2) (b % 2) (omega arith) (omega arith) in
     rw (or-step a b, digits-mod _ (digits .0)) (digits .1)
 
 -- words that are the `or` of two sets' words hold the kinds of either

@@ -1,50 +1,34 @@
 -- How a proof that acts handle their markers well is put together: which markers they take, and which they leave. Assumes nothing.
+use mathlib.Core.Path.{refl}
 use mathlib.Core.List.{List, [], _∷_, _++_}
-use mathlib.Core.Bool.{Bool, true, false}
+use mathlib.Core.Bool.{Bool, true, false, cond}
 use Prim.Native.Nat.{ℕ, zero, suc}
 use lib.Dec.{T, eqb}
 use Rattle.kinds.specs.Kinds.{EOF, L-CURLY, R-CURLY, ERROR}
-use Rattle.kinds.specs.Membership.{pick, oneOf}
-use Rattle.kinds.proofs.Laws.{both}
+use Rattle.kinds.specs.Membership.{oneOf, both}
 use Rattle.runtime.specs.declared.parser.Completed.{Completed}
 use Rattle.runtime.specs.declared.parser.Stop.{Stop}
 use Rattle.runtime.specs.declared.parser.Stop.the-variants.{Panic}
-use Rattle.runtime.specs.Acts.{Act.looks, Act.peeks, Act.eats, Act.takes, Act.starts, Act.completes, Act.abandons, Act.precedes, Act.extends, Act.fails, Act.stops, Act.asks, Acts, Acts.done, Acts.act, _>>=_, one as only, nth, nthAt, eat, atTs, start, stop, isRefused, bump, bumpAny, error, expect, complete, abandon, precede, extendTo, errRecover, must, goesOn, Turn, Turn.more, Turn.last, iter, rounds, repeats}
+use Rattle.runtime.specs.Acts.{Act.takes, Acts, Acts.done, Acts.act, _>>=_, one as only, nth, nthAt, eat, atTs, start, stop, isRefused, bump, bumpAny, error, expect, complete, abandon, precede, extendTo, errRecover, must, goesOn, Turn, Turn.more, Turn.last, iter, rounds, repeats}
 use Rattle.markers.proofs.Marks.{Marker, Marker.fresh, Marker.made, Marker.shut, Marks}
 use Rattle.markers.proofs.Live.{Closes, Closes.one, Closes.other, Closes.there, Drops, Drops.here, Drops.there, Has, Has.here, Has.there, Extends, Extends.here, Extends.there}
-use Rattle.markers.proofs.Safe.{small, nodeKind, Safe}
+use Rattle.markers.proofs.Safe.{small, nodeKind, Handling, Handling.silent, Handling.leaves, Handling.halts, handling, SafeBy, Safe}
+
+-- what follows an act, with less asked of it
+follows : {X : Type 0} (c : Handling X) (o : Marks) (S S′ : X → Marks → Type 0) → ((x : X) (r : Marks) → S x r → S′ x r) → SafeBy c o S → SafeBy c o S′
+follows silent o S S′ f h = λ x. f x o (h x)
+follows (leaves F R) o S S′ f h = λ x. let u = h x in (u .0, u .1, f x (u .0) (u .2))
+follows halts o S S′ f h = tt
 
 -- Safe acts one after another, and with less asked of them.
 pub weaken : {A : Type 0} (m : Acts A) (o : Marks) (P Q : A → Marks → Type 0) → ((a : A) (r : Marks) → P a r → Q a r) → Safe m o P → Safe m o Q
 weaken (done a) o P Q h s = h a o s
-weaken (act (looks n) m) o P Q h s = λ x. weaken (m x) o P Q h (s x)
-weaken (act (peeks n k) m) o P Q h s = λ b. weaken (m b) o P Q h (s b)
-weaken (act (eats k) m) o P Q h s = λ b. weaken (m b) o P Q h (s b)
-weaken (act takes m) o P Q h s = weaken (m tt) o P Q h s
-weaken (act starts m) o P Q h s = λ i. weaken (m i) (fresh i ∷ o) P Q h (s i)
-weaken (act (completes i k) m) o P Q h s = (s .0, (s .1 .0, s .1 .1, weaken (m tt) (s .1 .0) P Q h (s .1 .2)))
-weaken (act (abandons i) m) o P Q h s = (s .0, s .1, weaken (m tt) (s .0) P Q h (s .2))
-weaken (act (precedes i) m) o P Q h s = (s .0, λ j. weaken (m j) (made j ∷ o) P Q h (s .1 j))
-weaken (act (extends i j) m) o P Q h s = (s .0, s .1, weaken (m tt) (s .0) P Q h (s .2))
-weaken (act (fails c a) m) o P Q h s = (s .0, weaken (m tt) o P Q h (s .1))
-weaken (act (stops w) m) o P Q h s = tt
-weaken (act asks m) o P Q h s = λ b. weaken (m b) o P Q h (s b)
+weaken (act a m) o P Q h s = follows (handling a) o (λ x r. Safe (m x) r P) (λ x r. Safe (m x) r Q) (λ x r. weaken (m x) r P Q h) s
 
 pub safe-bind : {A B : Type 0} (m : Acts A) (f : A → Acts B) (o : Marks) (Q : B → Marks → Type 0) → Safe m o (λ a r. Safe (f a) r Q) → Safe (m >>= f) o Q
 unfolding _>>=_
 safe-bind (done a) f o Q s = s
-safe-bind (act (looks n) m) f o Q s = λ x. safe-bind (m x) f o Q (s x)
-safe-bind (act (peeks n k) m) f o Q s = λ b. safe-bind (m b) f o Q (s b)
-safe-bind (act (eats k) m) f o Q s = λ b. safe-bind (m b) f o Q (s b)
-safe-bind (act takes m) f o Q s = safe-bind (m tt) f o Q s
-safe-bind (act starts m) f o Q s = λ i. safe-bind (m i) f (fresh i ∷ o) Q (s i)
-safe-bind (act (completes i k) m) f o Q s = (s .0, (s .1 .0, s .1 .1, safe-bind (m tt) f (s .1 .0) Q (s .1 .2)))
-safe-bind (act (abandons i) m) f o Q s = (s .0, s .1, safe-bind (m tt) f (s .0) Q (s .2))
-safe-bind (act (precedes i) m) f o Q s = (s .0, λ j. safe-bind (m j) f (made j ∷ o) Q (s .1 j))
-safe-bind (act (extends i j) m) f o Q s = (s .0, s .1, safe-bind (m tt) f (s .0) Q (s .2))
-safe-bind (act (fails c a) m) f o Q s = (s .0, safe-bind (m tt) f o Q (s .1))
-safe-bind (act (stops w) m) f o Q s = tt
-safe-bind (act asks m) f o Q s = λ b. safe-bind (m b) f o Q (s b)
+safe-bind (act a m) f o Q s = follows (handling a) o (λ x r. Safe (m x) r (λ y t. Safe (f y) t Q)) (λ x r. Safe (m x >>= f) r Q) (λ x r. safe-bind (m x) f r Q) s
 
 -- The markers r are those of o, and above them, newest first, those of xs; completed ones that nobody asks for may stand between.
 pub data Opens (o : Marks) : Marks → Marks → Type 0 where
@@ -102,7 +86,7 @@ with {x = x} {us = us} m f ys h k = then m f (λ a. ys a ++ us) (frame (x ∷ []
 pub ends : {A : Type 0} (a : A) (ys : A → Marks) → Run (ys a) (done a) ys
 ends a ys = record { runs = λ o r p. p }
 
-pub if : {A : Type 0} {xs : Marks} {ys : A → Marks} (b : Bool) (x y : Acts A) → Run xs x ys → Run xs y ys → Run xs (pick b x y) ys
+pub if : {A : Type 0} {xs : Marks} {ys : A → Marks} (b : Bool) (x y : Acts A) → Run xs x ys → Run xs y ys → Run xs (cond b x y) ys
 if true x y h k = h
 if false x y h k = k
 
@@ -144,24 +128,24 @@ extends-in (here d) (keep p) = let u = drops-in d p in (_, here (u .1), keep (u 
 extends-in (there c) (keep p) = let u = extends-in c p in (_, there (u .1), keep (u .2))
 
 pub run-start : (us : Marks) → Run us start (λ i. fresh i ∷ us)
-run-start us = record { runs = λ o r p i. keep p }
+run-start us = record { runs = λ o r p i. (_, refl, keep p) }
 
 pub run-complete : (i k : ℕ) {xs ys : Marks} → T (nodeKind k) → Closes i xs ys → Run xs (complete i k) (λ c. ys)
-run-complete i k t c = record { runs = λ o r p. (t, closes-in c p) }
+run-complete i k t c = record { runs = λ o r p x. let u = closes-in c p in (u .0, (t, u .1), u .2) }
 
 -- the newest open marker, whose completed one nobody asks for
 pub finish : (i k : ℕ) {us : Marks} → T (nodeKind k) → Run (fresh i ∷ us) (complete i k) (λ c. us)
 finish i k {us} t = lose (complete i k) (λ c. i) (λ c. us) (run-complete i k t one)
 
 pub run-abandon : (i : ℕ) {xs ys : Marks} → Drops i xs ys → Run xs (abandon i) (λ a. ys)
-run-abandon i d = record { runs = λ o r p. drops-in d p }
+run-abandon i d = record { runs = λ o r p x. drops-in d p }
 
 pub run-precede : (c : Completed) (us : Marks) → Run (shut (c .pos) ∷ us) (precede c) (λ j. made j ∷ us)
-run-precede c us = record { runs = λ o r p. (has-in here p, λ j. keep (less p)) }
+run-precede c us = record { runs = λ o r p j. (_, (has-in here p, refl), keep (less p)) }
 
 -- a fresh marker up to the completed one before it
 pub run-extend : (c : Completed) (m : ℕ) (us : Marks) → Run (shut (c .pos) ∷ fresh m ∷ us) (extendTo c m) (λ a. shut (a .pos) ∷ us)
-run-extend c m us = record { runs = λ o r p. extends-in (here here) p }
+run-extend c m us = record { runs = λ o r p x. extends-in (here here) p }
 
 -- The others.
 pub run-look : (n : ℕ) → Run [] (nth n) none
@@ -174,13 +158,13 @@ pub run-eat : (k : ℕ) → Run [] (eat k) none
 run-eat k = record { runs = λ o r p b. p }
 
 run-take : Run [] (only takes) none
-run-take = record { runs = λ o r p. p }
+run-take = record { runs = λ o r p x. p }
 
 pub run-refused : Run [] isRefused none
 run-refused = record { runs = λ o r p b. p }
 
 pub run-error : (c a : ℕ) → T (both (small c) (small a)) → Run [] (error c a) none
-run-error c a t = record { runs = λ o r p. (t, p) }
+run-error c a t = record { runs = λ o r p x. (_, (t, refl), p) }
 
 -- after a stop nothing is asked
 pub run-stop : {A : Type 0} (w : Stop) (f : Unit {0} → Acts A) (xs : Marks) (ys : A → Marks) → Run xs (stop w >>= f) ys
@@ -271,10 +255,10 @@ abbrev pub made-of : Completed → Marks
 made-of c = shut (c .pos) ∷ []
 
 pub answered : (i k : ℕ) → T (nodeKind k) → Run (fresh i ∷ []) (complete i k) made-of
-answered i k t = record { runs = λ o r p. (t, closes-in one p) }
+answered i k t = record { runs = λ o r p x. let u = closes-in one p in (u .0, (t, u .1), u .2) }
 
 pub answered-around : (i k : ℕ) → T (nodeKind k) → Run (made i ∷ []) (complete i k) made-of
-answered-around i k t = record { runs = λ o r p. (t, closes-in other p) }
+answered-around i k t = record { runs = λ o r p x. let u = closes-in other p in (u .0, (t, u .1), u .2) }
 
 -- an answer that nobody reads
 pub unread : {A : Type 0} {xs : Marks} (m : Acts A) → Run xs m none → Run {A = Unit {0}} xs (m >>= (λ a. done tt)) none
@@ -284,17 +268,17 @@ pub unasked : {xs : Marks} (m : Acts Completed) → Run xs m made-of → Run xs 
 unasked m h = lose m (λ c. c .pos) none h
 
 -- `if c { m }`
-pub perhaps : (b : Bool) (m : Acts (Unit {0})) → Run [] m none → Run [] (pick b m (done tt)) none
+pub perhaps : (b : Bool) (m : Acts (Unit {0})) → Run [] m none → Run [] (cond b m (done tt)) none
 perhaps b m h = if b _ _ h (ends tt none)
 
 pub closed-around : (i k : ℕ) → T (nodeKind k) → Run {A = Unit {0}} (made i ∷ []) (complete i k >>= (λ c. done tt)) none
 closed-around i k t = unread _ (unasked _ (answered-around i k t))
 
 -- a branch on an answer that says which markers are left
-pub branch : {A : Type 0} {xs ys : Marks} {zs : A → Marks} (b : Bool) (x y : Acts A) → Run xs x zs → Run ys y zs → Run (pick b xs ys) (pick b x y) zs
+pub branch : {A : Type 0} {xs ys : Marks} {zs : A → Marks} (b : Bool) (x y : Acts A) → Run xs x zs → Run ys y zs → Run (cond b xs ys) (cond b x y) zs
 branch true x y h k = h
 branch false x y h k = k
 
 -- the open marker before the newest one
 pub closing-under : {B : Type 0} {x : Marker} {us : Marks} {zs : B → Marks} (i k : ℕ) (f : Completed → Acts B) → T (nodeKind k) → ((c : Completed) → Run (x ∷ us) (f c) zs) → Run (x ∷ fresh i ∷ us) (complete i k >>= f) zs
-closing-under {x = x} {us = us} i k f t h = then _ f (λ c. x ∷ us) (record { runs = λ o r p. let u = closes-in (there one) p in (t, (u .0, u .1, under (u .2))) }) h
+closing-under {x = x} {us = us} i k f t h = then _ f (λ c. x ∷ us) (record { runs = λ o r p a. let u = closes-in (there one) p in (u .0, (t, u .1), under (u .2)) }) h

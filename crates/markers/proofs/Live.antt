@@ -8,22 +8,14 @@ use lib.ListN.{length, set, take, length-set, length-append, List·getD-append}
 use lib.Seq.{getD-set-other, getD-set-same, getD-take, getD-at, length-take-le}
 use lib.Dec.{eqb, ltb}
 use borrow.Author.Tests.{eqb-true, eqb-false, ltb-true, ltb-false}
-use Rattle.runtime.specs.Glue.{both}
-use Rattle.runtime.specs.Event.{Event, Event.start, Event.finish, Event.token, Event.error, Event.none, isStart, isBare, withKind, withDistance}
-use Rattle.runtime.proofs.Kept.{apart}
+use Rattle.kinds.specs.Membership.{both}
+use Rattle.event.specs.declared.Event.{Event}
+use Rattle.event.specs.declared.Event.the-variants.{Start, Finish, Token, Error, NoEvent}
+use Rattle.event.specs.Event.{isStart, isBare, withKind, withDistance, Sound, distance}
+use Rattle.laws.proofs.Tests.{apart}
+use Rattle.event.proofs.Rooms.{Sounds}
 use Rattle.markers.proofs.Balance.{Goes, Balanced, isTomb, balanced-add, balanced-named, balanced-linked, balanced-take}
-use Rattle.markers.proofs.Marks.{Marker, Marker.fresh, Marker.made, Marker.shut, Marks, spot, at, reach, Links, Free, Is, Fits, start-below, bare-start, bare-reach, fits-more, fits-same, links-add, free-end, is-add, start-set, links-set, is-set, links-take, is-take}
-
--- numbers that fit their words
-abbrev pub Fitting : Event → Type 0
-Fitting (start k d) = k < 65536
-Fitting finish = Unit {0}
-Fitting (token k n) = (k < 65536) × (1 ≤ n) × (n ≤ 3)
-Fitting (error c a) = (c < 65536) × (a < 65536)
-Fitting (none a b) = ⊥
-
-pub record Sounds (l : List Event) : Type 0 where
-  pub sound : (j : ℕ) → j < length l → Fitting (at l j)
+use Rattle.markers.proofs.Marks.{Marker, Marker.fresh, Marker.made, Marker.shut, Marks, spot, at, Links, Free, Is, Fits, start-below, bare-start, bare-reach, fits-more, fits-same, links-add, free-end, is-add, start-set, links-set, is-set, links-take, is-take}
 
 -- Starts and finishes balance, distances land on starts, numbers fit, and the markers o stand.
 pub record Live (o : Marks) (l : List Event) : Type 0 where
@@ -35,33 +27,33 @@ pub record Live (o : Marks) (l : List Event) : Type 0 where
 pub live-none : Live [] []
 live-none = record { balance = refl; links = record { lands = λ j n. absurd (n refl) }; sounds = record { sound = λ j h. absurd (omega arith) }; marks = tt }
 
-sounds-add : (l : List Event) (v : Event) → Fitting v → Sounds l → Sounds (l ++ v ∷ [])
+sounds-add : (l : List Event) (v : Event) → Sound v → Sounds l → Sounds (l ++ v ∷ [])
 sounds-add l v f h = record { sound = λ j g. by j g (ltb j (length l)) refl }
   where
-    by : (j : ℕ) → j < length (l ++ v ∷ []) → (b : Bool) → ltb j (length l) ≡ b → Fitting (at (l ++ v ∷ []) j)
-    by j g true q = rw (List·getD-append l (v ∷ []) (none 0 0) j (ltb-true _ _ q)) (h .sound j (ltb-true _ _ q))
+    by : (j : ℕ) → j < length (l ++ v ∷ []) → (b : Bool) → ltb j (length l) ≡ b → Sound (at (l ++ v ∷ []) j)
+    by j g true q = rw (List·getD-append l (v ∷ []) (NoEvent 0 0) j (ltb-true _ _ q)) (h .sound j (ltb-true _ _ q))
     by j g false q =
         let e : length l ≡ j = omega (arith, ltb-false j (length l) q, length-append l (v ∷ [])) in
-        rw (getD-at l v [] (none 0 0) j e) f
+        rw (getD-at l v [] (NoEvent 0 0) j e) f
 
-sounds-set : (l : List Event) (i : ℕ) (v : Event) → Fitting v → Sounds l → Sounds (set l i v)
+sounds-set : (l : List Event) (i : ℕ) (v : Event) → Sound v → Sounds l → Sounds (set l i v)
 sounds-set l i v f h = record { sound = λ j g. by j (rw (length-set l i v) at g) (eqb j i) refl }
   where
-    by : (j : ℕ) → j < length l → (b : Bool) → eqb j i ≡ b → Fitting (at (set l i v) j)
-    by j g true q = let e : j ≡ i = eqb-true j i q in rw (e, getD-set-same l i v (none 0 0) (omega arith)) f
-    by j g false q = rw (getD-set-other l i j v (none 0 0) (eqb-false j i q)) (h .sound j g)
+    by : (j : ℕ) → j < length l → (b : Bool) → eqb j i ≡ b → Sound (at (set l i v) j)
+    by j g true q = let e : j ≡ i = eqb-true j i q in rw (e, getD-set-same l i v (NoEvent 0 0) (omega arith)) f
+    by j g false q = rw (getD-set-other l i j v (NoEvent 0 0) (eqb-false j i q)) (h .sound j g)
 
 sounds-take : (l : List Event) (n : ℕ) → n ≤ length l → Sounds l → Sounds (take n l)
 sounds-take l n m h =
     record {
-      sound = λ j g. let q : j < n = omega (arith, length-take-le n l m) in rw (getD-take n l j (none 0 0) q) (h .sound j (omega arith));
+      sound = λ j g. let q : j < n = omega (arith, length-take-le n l m) in rw (getD-take n l j (NoEvent 0 0) q) (h .sound j (omega arith));
     }
 
 longer : (l : List Event) (v : Event) → length (l ++ v ∷ []) ≡ length l + 1
 longer l v = length-append l (v ∷ [])
 
 -- a token, an error
-pub live-add : (o : Marks) (l : List Event) (v : Event) → reach v ≡ 0 → Goes 0 v 0 → Fitting v → Live o l → Live o (l ++ v ∷ [])
+pub live-add : (o : Marks) (l : List Event) (v : Event) → distance v ≡ 0 → Goes 0 v 0 → Sound v → Live o l → Live o (l ++ v ∷ [])
 live-add o l v z g f h =
     record {
       balance = balanced-add 0 0 0 l v (h .balance) g;
@@ -71,13 +63,13 @@ live-add o l v z g f h =
     }
 
 -- a start
-pub live-start : (o : Marks) (l : List Event) → Live o l → Live (fresh (length l) ∷ o) (l ++ start 0 0 ∷ [])
+pub live-start : (o : Marks) (l : List Event) → Live o l → Live (fresh (length l) ∷ o) (l ++ Start 0 0 ∷ [])
 live-start o l h =
     record {
-      balance = balanced-add 0 0 0 l (start 0 0) (h .balance) refl;
-      links = links-add l (start 0 0) refl (h .links);
-      sounds = sounds-add l (start 0 0) (omega arith) (h .sounds);
-      marks = (rw (longer l (start 0 0)) (omega arith), (ap isBare (getD-at l (start 0 0) [] (none 0 0) (length l) refl), free-end l (start 0 0) refl (h .links)), fits-same (length l) l (l ++ start 0 0 ∷ []) o (is-add l (start 0 0) refl) (h .marks));
+      balance = balanced-add 0 0 0 l (Start 0 0) (h .balance) refl;
+      links = links-add l (Start 0 0) refl (h .links);
+      sounds = sounds-add l (Start 0 0) (omega arith) (h .sounds);
+      marks = (rw (longer l (Start 0 0)) (omega arith), (ap isBare (getD-at l (Start 0 0) [] (NoEvent 0 0) (length l) refl), free-end l (Start 0 0) refl (h .links)), fits-same (length l) l (l ++ Start 0 0 ∷ []) o (is-add l (Start 0 0) refl) (h .marks));
     }
 
 -- An open marker is completed; a fresh one is taken away; a completed one is there; and a fresh one is extended up to a completed one
@@ -122,43 +114,43 @@ bare-extends n i j l (here d) h = drops-at j i l d (h .2) .1
 bare-extends n i j l (there {x = x} t) h = bare-extends (spot x) i j l t (h .2)
 
 bare-tomb : (v : Event) → isBare v ≡ true → isTomb v ≡ true
-bare-tomb (start k d) h = by (eqb k 0) h
+bare-tomb (Start k d) h = by (eqb k 0) h
   where
     by : (b : Bool) → both b (eqb d 0) ≡ true → b ≡ true
     by true q = refl
     by false q = q
-bare-tomb finish h = h
-bare-tomb (token k n) h = h
-bare-tomb (error c a) h = h
-bare-tomb (none a b) h = h
+bare-tomb Finish h = h
+bare-tomb (Token k n) h = h
+bare-tomb (Error c a) h = h
+bare-tomb (NoEvent a b) h = h
 
 -- `complete`: a kind, and a finish
 module _ (l : List Event) (i k : ℕ) (bare : isBare (at l i) ≡ true) where
-  named-reach : (v : Event) → isBare v ≡ true → reach (withKind k v) ≡ 0
-  named-reach (start j d) h = bare-reach (start j d) h
-  named-reach finish h = refl
-  named-reach (token j n) h = refl
-  named-reach (error c a) h = refl
-  named-reach (none a b) h = refl
+  named-reach : (v : Event) → isBare v ≡ true → distance (withKind k v) ≡ 0
+  named-reach (Start j d) h = bare-reach (Start j d) h
+  named-reach Finish h = refl
+  named-reach (Token j n) h = refl
+  named-reach (Error c a) h = refl
+  named-reach (NoEvent a b) h = refl
 
   named-start : (v : Event) → isBare v ≡ true → isStart (withKind k v) ≡ true
-  named-start (start j d) h = refl
-  named-start finish h = h
-  named-start (token j n) h = h
-  named-start (error c a) h = h
-  named-start (none a b) h = h
+  named-start (Start j d) h = refl
+  named-start Finish h = h
+  named-start (Token j n) h = h
+  named-start (Error c a) h = h
+  named-start (NoEvent a b) h = h
 
-  named-fits : (v : Event) → k < 65536 → isBare v ≡ true → Fitting (withKind k v)
-  named-fits (start j d) f h = f
-  named-fits finish f h = tt
-  named-fits (token j n) f h = apart h
-  named-fits (error c a) f h = apart h
-  named-fits (none a b) f h = apart h
+  named-fits : (v : Event) → k < 65536 → isBare v ≡ true → Sound (withKind k v)
+  named-fits (Start j d) f h = f
+  named-fits Finish f h = tt
+  named-fits (Token j n) f h = apart h
+  named-fits (Error c a) f h = apart h
+  named-fits (NoEvent a b) f h = apart h
 
   is-start : isStart (at l i) ≡ true
   is-start = bare-start (at l i) bare
 
-  no-reach : reach (withKind k (at l i)) ≡ 0
+  no-reach : distance (withKind k (at l i)) ≡ 0
   no-reach = named-reach (at l i) bare
 
   kept : (x : Marker) → (spot x ≡ i → ⊥) → Is x l → Is x (set l i (withKind k (at l i)))
@@ -171,15 +163,15 @@ module _ (l : List Event) (i k : ℕ) (bare : isBare (at l i) ≡ true) where
       let r = closes-at (spot x) i l c (h .2) in
       (h .0, kept x (λ e. omega (arith, r .0)) (h .1), fits-closes (spot x) c (h .2))
 
-  pub live-complete : {o o′ : Marks} → (k ≡ 0 → ⊥) → k < 65536 → Closes i o o′ → Live o l → Live o′ (set l i (withKind k (at l i)) ++ finish ∷ [])
+  pub live-complete : {o o′ : Marks} → (k ≡ 0 → ⊥) → k < 65536 → Closes i o o′ → Live o l → Live o′ (set l i (withKind k (at l i)) ++ Finish ∷ [])
   live-complete {o} {o′} n f c h =
       let w : List Event = set l i (withKind k (at l i)) in
       let q : length w ≡ length l = length-set l i (withKind k (at l i)) in
       record {
-        balance = balanced-add 0 1 0 w finish (balanced-named 0 0 l i k n (bare-tomb (at l i) bare) (h .balance)) refl;
-        links = links-add w finish refl (links-set l i (withKind k (at l i)) is-start (named-start (at l i) bare) (λ z. absurd (z no-reach)) (h .links));
-        sounds = sounds-add w finish tt (sounds-set l i (withKind k (at l i)) (named-fits (at l i) f bare) (h .sounds));
-        marks = fits-more (length w) (length (w ++ finish ∷ [])) (w ++ finish ∷ []) o′ (rw (longer w finish) (omega arith)) (fits-same (length w) w (w ++ finish ∷ []) o′ (is-add w finish refl) (rw q (fits-closes (length l) c (h .marks))));
+        balance = balanced-add 0 1 0 w Finish (balanced-named 0 0 l i k n (bare-tomb (at l i) bare) (h .balance)) refl;
+        links = links-add w Finish refl (links-set l i (withKind k (at l i)) is-start (named-start (at l i) bare) (λ z. absurd (z no-reach)) (h .links));
+        sounds = sounds-add w Finish tt (sounds-set l i (withKind k (at l i)) (named-fits (at l i) f bare) (h .sounds));
+        marks = fits-more (length w) (length (w ++ Finish ∷ [])) (w ++ Finish ∷ []) o′ (rw (longer w Finish) (omega arith)) (fits-same (length w) w (w ++ Finish ∷ []) o′ (is-add w Finish refl) (rw q (fits-closes (length l) c (h .marks))));
       }
 
 -- `abandon` of a start that is not the last event, and of one that is
@@ -208,27 +200,27 @@ live-pop n l {o} {o′} q d h =
 -- Distances: the start at i points to a start at j, behind it.
 module _ (l : List Event) (i j : ℕ) (si : isStart (at l i) ≡ true) (sj : isStart (at l j) ≡ true) (up : i < j) where
   far-start : (v : Event) → isStart v ≡ true → isStart (withDistance (j - i) v) ≡ true
-  far-start (start k d) h = refl
-  far-start finish h = h
-  far-start (token k n) h = h
-  far-start (error c a) h = h
-  far-start (none a b) h = h
+  far-start (Start k d) h = refl
+  far-start Finish h = h
+  far-start (Token k n) h = h
+  far-start (Error c a) h = h
+  far-start (NoEvent a b) h = h
 
-  far-reach : (v : Event) → isStart v ≡ true → reach (withDistance (j - i) v) ≡ j - i
-  far-reach (start k d) h = refl
-  far-reach finish h = apart h
-  far-reach (token k n) h = apart h
-  far-reach (error c a) h = apart h
-  far-reach (none a b) h = apart h
+  far-reach : (v : Event) → isStart v ≡ true → distance (withDistance (j - i) v) ≡ j - i
+  far-reach (Start k d) h = refl
+  far-reach Finish h = apart h
+  far-reach (Token k n) h = apart h
+  far-reach (Error c a) h = apart h
+  far-reach (NoEvent a b) h = apart h
 
-  far-fits : (v : Event) → isStart v ≡ true → Fitting v → Fitting (withDistance (j - i) v)
-  far-fits (start k d) h f = f
-  far-fits finish h f = f
-  far-fits (token k n) h f = f
-  far-fits (error c a) h f = f
-  far-fits (none a b) h f = f
+  far-fits : (v : Event) → isStart v ≡ true → Sound v → Sound (withDistance (j - i) v)
+  far-fits (Start k d) h f = f
+  far-fits Finish h f = f
+  far-fits (Token k n) h f = f
+  far-fits (Error c a) h f = f
+  far-fits (NoEvent a b) h f = f
 
-  lands : i + reach (withDistance (j - i) (at l i)) ≡ j
+  lands : i + distance (withDistance (j - i) (at l i)) ≡ j
   lands = rw (far-reach (at l i) si) (omega arith)
 
   moved : List Event
@@ -276,5 +268,5 @@ module _ (l : List Event) (i j : ℕ) (si : isStart (at l i) ≡ true) (sj : isS
   pub live-precede : {o : Marks} → Has i o → Live (fresh j ∷ o) l → Live (made j ∷ o) (set l i (withDistance (j - i) (at l i)))
   live-precede {o} c h =
       live-far
-      (h .marks .0, ap isBare (getD-set-other l i j (withDistance (j - i) (at l i)) (none 0 0) (λ e. omega arith)) ∙ h .marks .1 .0, fits-has j (omega arith) c (h .marks .2))
+      (h .marks .0, ap isBare (getD-set-other l i j (withDistance (j - i) (at l i)) (NoEvent 0 0) (λ e. omega arith)) ∙ h .marks .1 .0, fits-has j (omega arith) c (h .marks .2))
       h

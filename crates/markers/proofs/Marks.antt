@@ -8,9 +8,11 @@ use lib.ListN.{length, getD, set, take, length-append, List·getD-append, List·
 use lib.Seq.{getD-set-other, getD-set-same, getD-take, getD-at, length-take-le}
 use lib.Dec.{eqb, ltb}
 use borrow.Author.Tests.{eqb-true, eqb-false, ltb-true, ltb-false}
-use Rattle.runtime.specs.Glue.{both}
-use Rattle.runtime.specs.Event.{Event, Event.start, Event.finish, Event.token, Event.error, Event.none, isStart, isBare}
-use Rattle.runtime.proofs.Kept.{apart}
+use Rattle.kinds.specs.Membership.{both}
+use Rattle.event.specs.declared.Event.{Event}
+use Rattle.event.specs.declared.Event.the-variants.{Start, Finish, Token, Error, NoEvent}
+use Rattle.event.specs.Event.{isStart, isBare, distance}
+use Rattle.laws.proofs.Tests.{apart}
 
 -- A marker: open as `start` made it, open as `precede` made it, or completed. On the first no distance lands.
 pub data Marker : Type 0 where
@@ -26,24 +28,17 @@ spot (fresh i) = i
 spot (made i) = i
 spot (shut i) = i
 
--- the event at a position, and its distance
+-- the event at a position
 abbrev pub at : List Event → ℕ → Event
-at l j = getD l j (none 0 0)
-
-abbrev pub reach : Event → ℕ
-reach (start k d) = d
-reach finish = 0
-reach (token k n) = 0
-reach (error c a) = 0
-reach (none a b) = 0
+at l j = getD l j (NoEvent 0 0)
 
 -- each distance lands on a start of the list
 pub record Links (l : List Event) : Type 0 where
-  pub lands : (j : ℕ) → (reach (at l j) ≡ 0 → ⊥) → isStart (at l (j + reach (at l j))) ≡ true
+  pub lands : (j : ℕ) → (distance (at l j) ≡ 0 → ⊥) → isStart (at l (j + distance (at l j))) ≡ true
 
 -- no distance lands on i
 pub record Free (l : List Event) (i : ℕ) : Type 0 where
-  pub misses : (j : ℕ) → (reach (at l j) ≡ 0 → ⊥) → j + reach (at l j) ≡ i → ⊥
+  pub misses : (j : ℕ) → (distance (at l j) ≡ 0 → ⊥) → j + distance (at l j) ≡ i → ⊥
 
 -- how a marker stands in a list
 abbrev pub Is : Marker → List Event → Type 0
@@ -62,25 +57,25 @@ start-below l p h = by (ltb p (length l)) refl
   where
     by : (b : Bool) → ltb p (length l) ≡ b → p < length l
     by true q = ltb-true _ _ q
-    by false q = apart (ap isStart (sym (List·getD-eq-default l (none 0 0) (ltb-false p (length l) q))) ∙ h)
+    by false q = apart (ap isStart (sym (List·getD-eq-default l (NoEvent 0 0) (ltb-false p (length l) q))) ∙ h)
 
 pub bare-start : (v : Event) → isBare v ≡ true → isStart v ≡ true
-bare-start (start k d) h = refl
-bare-start finish h = h
-bare-start (token k n) h = h
-bare-start (error c a) h = h
-bare-start (none a b) h = h
+bare-start (Start k d) h = refl
+bare-start Finish h = h
+bare-start (Token k n) h = h
+bare-start (Error c a) h = h
+bare-start (NoEvent a b) h = h
 
-pub bare-reach : (v : Event) → isBare v ≡ true → reach v ≡ 0
-bare-reach (start k d) h = by (eqb k 0) h
+pub bare-reach : (v : Event) → isBare v ≡ true → distance v ≡ 0
+bare-reach (Start k d) h = by (eqb k 0) h
   where
     by : (b : Bool) → both b (eqb d 0) ≡ true → d ≡ 0
     by true q = eqb-true d 0 q
     by false q = apart q
-bare-reach finish h = refl
-bare-reach (token k n) h = refl
-bare-reach (error c a) h = refl
-bare-reach (none a b) h = refl
+bare-reach Finish h = refl
+bare-reach (Token k n) h = refl
+bare-reach (Error c a) h = refl
+bare-reach (NoEvent a b) h = refl
 
 pub fits-more : (n n′ : ℕ) (l : List Event) (o : Marks) → n ≤ n′ → Fits n l o → Fits n′ l o
 fits-more n n′ l [] q h = tt
@@ -92,19 +87,19 @@ fits-same n l l′ [] q h = tt
 fits-same n l l′ (x ∷ o) q h = (h .0, q x (h .0) (h .1), fits-same (spot x) l l′ o (λ y g. q y (omega (arith, h .0))) (h .2))
 
 -- One event more, without a distance.
-module _ (l : List Event) (v : Event) (quiet : reach v ≡ 0) where
+module _ (l : List Event) (v : Event) (quiet : distance v ≡ 0) where
   below : (j : ℕ) → j < length l → at (l ++ v ∷ []) j ≡ at l j
-  below j h = List·getD-append l (v ∷ []) (none 0 0) j h
+  below j h = List·getD-append l (v ∷ []) (NoEvent 0 0) j h
 
-  beyond : (j : ℕ) → length l ≤ j → reach (at (l ++ v ∷ []) j) ≡ 0
+  beyond : (j : ℕ) → length l ≤ j → distance (at (l ++ v ∷ []) j) ≡ 0
   beyond j h = by (eqb j (length l)) refl
     where
-      by : (b : Bool) → eqb j (length l) ≡ b → reach (at (l ++ v ∷ []) j) ≡ 0
-      by true q = ap reach (getD-at l v [] (none 0 0) j (sym (eqb-true j (length l) q))) ∙ quiet
-      by false q = ap reach (List·getD-eq-default (l ++ v ∷ []) (none 0 0) (rw (length-append l (v ∷ [])) (omega (arith, eqb-false j (length l) q))))
+      by : (b : Bool) → eqb j (length l) ≡ b → distance (at (l ++ v ∷ []) j) ≡ 0
+      by true q = ap distance (getD-at l v [] (NoEvent 0 0) j (sym (eqb-true j (length l) q))) ∙ quiet
+      by false q = ap distance (List·getD-eq-default (l ++ v ∷ []) (NoEvent 0 0) (rw (length-append l (v ∷ [])) (omega (arith, eqb-false j (length l) q))))
 
   -- a distance of the longer list is one of the list
-  older : (j : ℕ) → (reach (at (l ++ v ∷ []) j) ≡ 0 → ⊥) → j < length l
+  older : (j : ℕ) → (distance (at (l ++ v ∷ []) j) ≡ 0 → ⊥) → j < length l
   older j h = by (ltb j (length l)) refl
     where
       by : (b : Bool) → ltb j (length l) ≡ b → j < length l
@@ -114,29 +109,29 @@ module _ (l : List Event) (v : Event) (quiet : reach v ≡ 0) where
   pub links-add : Links l → Links (l ++ v ∷ [])
   links-add h = record { lands = on }
     where
-      on : (j : ℕ) → (reach (at (l ++ v ∷ []) j) ≡ 0 → ⊥) → isStart (at (l ++ v ∷ []) (j + reach (at (l ++ v ∷ []) j))) ≡ true
+      on : (j : ℕ) → (distance (at (l ++ v ∷ []) j) ≡ 0 → ⊥) → isStart (at (l ++ v ∷ []) (j + distance (at (l ++ v ∷ []) j))) ≡ true
       on j n =
           let q : at (l ++ v ∷ []) j ≡ at l j = below j (older j n) in
-          let s : isStart (at l (j + reach (at l j))) ≡ true = h .lands j (λ z. n (ap reach q ∙ z)) in
-          rw q (ap isStart (below (j + reach (at l j)) (start-below l (j + reach (at l j)) s)) ∙ s)
+          let s : isStart (at l (j + distance (at l j))) ≡ true = h .lands j (λ z. n (ap distance q ∙ z)) in
+          rw q (ap isStart (below (j + distance (at l j)) (start-below l (j + distance (at l j)) s)) ∙ s)
 
   pub free-add : (i : ℕ) → Free l i → Free (l ++ v ∷ []) i
   free-add i h = record { misses = off }
     where
-      off : (j : ℕ) → (reach (at (l ++ v ∷ []) j) ≡ 0 → ⊥) → j + reach (at (l ++ v ∷ []) j) ≡ i → ⊥
+      off : (j : ℕ) → (distance (at (l ++ v ∷ []) j) ≡ 0 → ⊥) → j + distance (at (l ++ v ∷ []) j) ≡ i → ⊥
       off j n e =
-          let q : reach (at (l ++ v ∷ []) j) ≡ reach (at l j) = ap reach (below j (older j n)) in
+          let q : distance (at (l ++ v ∷ []) j) ≡ distance (at l j) = ap distance (below j (older j n)) in
           h .misses j (λ z. n (q ∙ z)) (ap (λ (x : ℕ). j + x) (sym q) ∙ e)
 
   -- nothing lands past the end
   pub free-end : Links l → Free (l ++ v ∷ []) (length l)
   free-end h = record { misses = off }
     where
-      off : (j : ℕ) → (reach (at (l ++ v ∷ []) j) ≡ 0 → ⊥) → j + reach (at (l ++ v ∷ []) j) ≡ length l → ⊥
+      off : (j : ℕ) → (distance (at (l ++ v ∷ []) j) ≡ 0 → ⊥) → j + distance (at (l ++ v ∷ []) j) ≡ length l → ⊥
       off j n e =
-          let q : reach (at (l ++ v ∷ []) j) ≡ reach (at l j) = ap reach (below j (older j n)) in
-          let s : isStart (at l (j + reach (at l j))) ≡ true = h .lands j (λ z. n (q ∙ z)) in
-          omega (arith, start-below l (j + reach (at l j)) s, q, e)
+          let q : distance (at (l ++ v ∷ []) j) ≡ distance (at l j) = ap distance (below j (older j n)) in
+          let s : isStart (at l (j + distance (at l j))) ≡ true = h .lands j (λ z. n (q ∙ z)) in
+          omega (arith, start-below l (j + distance (at l j)) s, q, e)
 
   pub is-add : (x : Marker) → spot x < length l → Is x l → Is x (l ++ v ∷ [])
   is-add (fresh i) g h = (ap isBare (below i g) ∙ h .0, free-add i (h .1))
@@ -146,10 +141,10 @@ module _ (l : List Event) (v : Event) (quiet : reach v ≡ 0) where
 -- Another start in the place of one.
 module _ (l : List Event) (i : ℕ) (v : Event) (old : isStart (at l i) ≡ true) (st : isStart v ≡ true) where
   here : at (set l i v) i ≡ v
-  here = getD-set-same l i v (none 0 0) (start-below l i old)
+  here = getD-set-same l i v (NoEvent 0 0) (start-below l i old)
 
   other : (j : ℕ) → (j ≡ i → ⊥) → at (set l i v) j ≡ at l j
-  other j n = getD-set-other l i j v (none 0 0) n
+  other j n = getD-set-other l i j v (NoEvent 0 0) n
 
   -- starts stay starts
   pub start-set : (j : ℕ) → isStart (at l j) ≡ true → isStart (at (set l i v) j) ≡ true
@@ -159,32 +154,32 @@ module _ (l : List Event) (i : ℕ) (v : Event) (old : isStart (at l i) ≡ true
       by true q = rw (eqb-true j i q) (ap isStart here ∙ st)
       by false q = ap isStart (other j (eqb-false j i q)) ∙ h
 
-  pub links-set : ((reach v ≡ 0 → ⊥) → isStart (at l (i + reach v)) ≡ true) → Links l → Links (set l i v)
+  pub links-set : ((distance v ≡ 0 → ⊥) → isStart (at l (i + distance v)) ≡ true) → Links l → Links (set l i v)
   links-set t h = record { lands = λ j. by j (eqb j i) refl }
     where
-      by : (j : ℕ) (b : Bool) → eqb j i ≡ b → (reach (at (set l i v) j) ≡ 0 → ⊥) → isStart (at (set l i v) (j + reach (at (set l i v) j))) ≡ true
+      by : (j : ℕ) (b : Bool) → eqb j i ≡ b → (distance (at (set l i v) j) ≡ 0 → ⊥) → isStart (at (set l i v) (j + distance (at (set l i v) j))) ≡ true
       by j true q n =
           let e : j ≡ i = eqb-true j i q in
           let r : at (set l i v) j ≡ v = ap (at (set l i v)) e ∙ here in
-          start-set (j + reach (at (set l i v) j)) (rw (r, e) (t (λ z. n (ap reach r ∙ z))))
+          start-set (j + distance (at (set l i v) j)) (rw (r, e) (t (λ z. n (ap distance r ∙ z))))
       by j false q n =
           let r : at (set l i v) j ≡ at l j = other j (eqb-false j i q) in
-          start-set (j + reach (at (set l i v) j)) (rw r (h .lands j (λ z. n (ap reach r ∙ z))))
+          start-set (j + distance (at (set l i v) j)) (rw r (h .lands j (λ z. n (ap distance r ∙ z))))
 
-  pub free-set : (x : ℕ) → ((reach v ≡ 0 → ⊥) → i + reach v ≡ x → ⊥) → Free l x → Free (set l i v) x
+  pub free-set : (x : ℕ) → ((distance v ≡ 0 → ⊥) → i + distance v ≡ x → ⊥) → Free l x → Free (set l i v) x
   free-set x t h = record { misses = λ j. by j (eqb j i) refl }
     where
-      by : (j : ℕ) (b : Bool) → eqb j i ≡ b → (reach (at (set l i v) j) ≡ 0 → ⊥) → j + reach (at (set l i v) j) ≡ x → ⊥
+      by : (j : ℕ) (b : Bool) → eqb j i ≡ b → (distance (at (set l i v) j) ≡ 0 → ⊥) → j + distance (at (set l i v) j) ≡ x → ⊥
       by j true q n e =
           let p : j ≡ i = eqb-true j i q in
-          let r : reach (at (set l i v) j) ≡ reach v = ap reach (ap (at (set l i v)) p ∙ here) in
+          let r : distance (at (set l i v) j) ≡ distance v = ap distance (ap (at (set l i v)) p ∙ here) in
           t (λ z. n (r ∙ z)) (omega (arith, p, r, e))
       by j false q n e =
-          let r : reach (at (set l i v) j) ≡ reach (at l j) = ap reach (other j (eqb-false j i q)) in
+          let r : distance (at (set l i v) j) ≡ distance (at l j) = ap distance (other j (eqb-false j i q)) in
           h .misses j (λ z. n (r ∙ z)) (ap (λ (y : ℕ). j + y) (sym r) ∙ e)
 
   -- a marker elsewhere on which the new distance does not land; a completed one stands anyway
-  pub is-set : (x : Marker) → (spot x ≡ i → ⊥) → ((reach v ≡ 0 → ⊥) → i + reach v ≡ spot x → ⊥) → Is x l → Is x (set l i v)
+  pub is-set : (x : Marker) → (spot x ≡ i → ⊥) → ((distance v ≡ 0 → ⊥) → i + distance v ≡ spot x → ⊥) → Is x l → Is x (set l i v)
   is-set (fresh j) n t h = (ap isBare (other j n) ∙ h .0, free-set j t (h .1))
   is-set (made j) n t h = ap isBare (other j n) ∙ h
   is-set (shut j) n t h = start-set j h
@@ -192,34 +187,34 @@ module _ (l : List Event) (i : ℕ) (v : Event) (old : isStart (at l i) ≡ true
 -- The last event goes, on which no distance lands.
 module _ (l : List Event) (n : ℕ) (long : length l ≡ n + 1) where
   kept : (j : ℕ) → j < n → at (take n l) j ≡ at l j
-  kept j h = getD-take n l j (none 0 0) h
+  kept j h = getD-take n l j (NoEvent 0 0) h
 
-  gone : (j : ℕ) → n ≤ j → at (take n l) j ≡ none 0 0
-  gone j h = List·getD-eq-default (take n l) (none 0 0) (rw (length-take-le n l (omega arith)) h)
+  gone : (j : ℕ) → n ≤ j → at (take n l) j ≡ NoEvent 0 0
+  gone j h = List·getD-eq-default (take n l) (NoEvent 0 0) (rw (length-take-le n l (omega arith)) h)
 
-  still : (j : ℕ) → (reach (at (take n l) j) ≡ 0 → ⊥) → j < n
+  still : (j : ℕ) → (distance (at (take n l) j) ≡ 0 → ⊥) → j < n
   still j h = by (ltb j n) refl
     where
       by : (b : Bool) → ltb j n ≡ b → j < n
       by true q = ltb-true _ _ q
-      by false q = absurd (h (ap reach (gone j (ltb-false j n q))))
+      by false q = absurd (h (ap distance (gone j (ltb-false j n q))))
 
   pub links-take : Free l n → Links l → Links (take n l)
   links-take f h = record { lands = on }
     where
-      on : (j : ℕ) → (reach (at (take n l) j) ≡ 0 → ⊥) → isStart (at (take n l) (j + reach (at (take n l) j))) ≡ true
+      on : (j : ℕ) → (distance (at (take n l) j) ≡ 0 → ⊥) → isStart (at (take n l) (j + distance (at (take n l) j))) ≡ true
       on j z =
           let q : at (take n l) j ≡ at l j = kept j (still j z) in
-          let y : reach (at l j) ≡ 0 → ⊥ = λ e. z (ap reach q ∙ e) in
-          let s : isStart (at l (j + reach (at l j))) ≡ true = h .lands j y in
-          rw q (ap isStart (kept (j + reach (at l j)) (omega (arith, start-below l (j + reach (at l j)) s, f .misses j y))) ∙ s)
+          let y : distance (at l j) ≡ 0 → ⊥ = λ e. z (ap distance q ∙ e) in
+          let s : isStart (at l (j + distance (at l j))) ≡ true = h .lands j y in
+          rw q (ap isStart (kept (j + distance (at l j)) (omega (arith, start-below l (j + distance (at l j)) s, f .misses j y))) ∙ s)
 
   free-take : (x : ℕ) → Free l x → Free (take n l) x
   free-take x h = record { misses = off }
     where
-      off : (j : ℕ) → (reach (at (take n l) j) ≡ 0 → ⊥) → j + reach (at (take n l) j) ≡ x → ⊥
+      off : (j : ℕ) → (distance (at (take n l) j) ≡ 0 → ⊥) → j + distance (at (take n l) j) ≡ x → ⊥
       off j z e =
-          let q : reach (at (take n l) j) ≡ reach (at l j) = ap reach (kept j (still j z)) in
+          let q : distance (at (take n l) j) ≡ distance (at l j) = ap distance (kept j (still j z)) in
           h .misses j (λ y. z (q ∙ y)) (ap (λ (y : ℕ). j + y) (sym q) ∙ e)
 
   pub is-take : (x : Marker) → spot x < n → Is x l → Is x (take n l)

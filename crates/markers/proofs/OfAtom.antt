@@ -1,9 +1,9 @@
 -- src/grammar/expressions/atom.rs handles its markers well: a lemma for each definition. Assumes nothing.
 use mathlib.Core.List.{[], _∷_}
-use mathlib.Core.Bool.{Bool, true, false, not, _&&_}
+use mathlib.Core.Bool.{Bool, true, false, not, _&&_, cond}
 use Prim.Native.Nat.{ℕ}
 use lib.Dec.{T, eqb}
-use Rattle.kinds.specs.Membership.{pick, oneOf}
+use Rattle.kinds.specs.Membership.{oneOf}
 use Rattle.kinds.specs.Kinds.{SEMICOLON, COMMA, AT, L-PAREN, R-PAREN, L-BRACK, R-BRACK, L-CURLY, R-CURLY, IDENT, HARDWAREIDENT, STRING, GPHASE-KW, INV-KW, POW-KW, CTRL-KW, NEGCTRL-KW, MEASURE-KW, RETURN-KW, BOX-KW, LITERAL, TIMING-LITERAL, IDENTIFIER, HARDWARE-QUBIT, PAREN-EXPR, ARRAY-EXPR, CAST-EXPRESSION, G-PHASE-CALL-EXPR, GATE-CALL-EXPR, MODIFIED-GATE-CALL-EXPR, INV-MODIFIER, POW-MODIFIER, CTRL-MODIFIER, NEG-CTRL-MODIFIER, MEASURE-EXPRESSION, BLOCK-EXPR, RETURN-EXPR, BOX-EXPR}
 use Rattle.kinds.specs.Sets.{EXPR-FIRST, CLASSICAL-TYPES, QUBIT-FIRST, LITERAL-FIRST, TIMING-LITERAL-FIRST}
 use Rattle.kinds.specs.Messages.{UNEXPECTED-STRING-LITERAL, ATOM-EXPR-EXPECTED-EXPRESSION}
@@ -208,7 +208,7 @@ module _ (deeper : Counted) (h : Tidy deeper) where
     where
       by : (g : Got) → Run (gotten g) (elim g [
         | Is cm block ↦ done (Is cm false)
-        | Nothing ↦ (nth 1 >>= (λ la. current >>= (λ k. pick (oneOf CLASSICAL-TYPES k) (castExpr deeper >>= (λ cm. done (Is cm false))) (current >>= (λ k. atomOf deeper k la)))))
+        | Nothing ↦ (nth 1 >>= (λ la. current >>= (λ k. cond (oneOf CLASSICAL-TYPES k) (castExpr deeper >>= (λ cm. done (Is cm false))) (current >>= (λ k. atomOf deeper k la)))))
       ]) gotten
       by (Is cm block) = ends (Is cm false) gotten
       by Nothing =

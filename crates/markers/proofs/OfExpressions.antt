@@ -1,9 +1,9 @@
 -- src/grammar/expressions.rs handles its markers well: a lemma for each definition. Assumes nothing.
 use mathlib.Core.List.{List, [], _∷_, _++_}
-use mathlib.Core.Bool.{Bool, true, false, not, _&&_}
+use mathlib.Core.Bool.{Bool, true, false, not, _&&_, cond}
 use Prim.Native.Nat.{ℕ}
 use lib.Dec.{eqb, ltb}
-use Rattle.kinds.specs.Membership.{pick, oneOf}
+use Rattle.kinds.specs.Membership.{oneOf}
 use Rattle.kinds.specs.Kinds.{SEMICOLON, COMMA, COLON, EQ, L-PAREN, R-PAREN, L-BRACK, R-BRACK, L-CURLY, R-CURLY, IDENT, HARDWAREIDENT, PRAGMA, ANNOTATION, LET-KW, ARRAY-KW, QUBIT-KW, COMPLEX-TY, FLOAT-TY, RANGE-EXPR, PRAGMA-STATEMENT, ANNOTATION-STATEMENT, ASSIGNMENT-STMT, EXPR-STMT, LET-STMT, IDENTIFIER, INDEXED-IDENTIFIER, BIN-EXPR, PREFIX-EXPR, GATE-CALL-EXPR, CALL-EXPR, ARRAY-TYPE, SCALAR-TYPE, QUBIT-TYPE, DESIGNATOR, NAME, INDEX-EXPR, SET-EXPRESSION, INDEX-OPERATOR, EXPRESSION-LIST, ARG-LIST}
 use Rattle.kinds.specs.Sets.{EXPR-FIRST, EXPR-RECOVERY-SET, CLASSICAL-TYPES, TYPES, QUBIT-FIRST, PREFIX-OPS, ASSIGNABLE, UNINDEXED, ARRAY-BASES, NO-INTEGERS}
 use Rattle.kinds.specs.Messages.{EXPR-BP-EXPECTED-EXPRESSION, STMT-EXPECTED-EXPRESSION-TYPE-DECLARATION-OR-LET, EXPECTING-FLOAT-IN-COMPLEX-DESIGNATOR, FOUND-DESIGNATOR-IN-HARDWARE-QUBIT-DECLARATION}
@@ -209,7 +209,7 @@ module _ (deeper : Counted) (h : Tidy deeper) where
 
 -- an item that was read took its marker; else the marker is as it was
 abbrev pub untaken : ℕ → Bool → Marks
-untaken m b = pick b [] (fresh m ∷ [])
+untaken m b = cond b [] (fresh m ∷ [])
 
 -- what is asked of the files that come after
 pub record Tidies (l : Later) : Type 0 where
@@ -270,7 +270,7 @@ module _ (deeper : Counted) (h : Tidy deeper) (later : Later) (g : Tidies later)
       where
         by : (m : ℕ) (x : Got) → Run (gotten x ++ fresh m ∷ []) (elim x [
           | Nothing ↦ (abandon m >> done Nothing)
-          | Is cm block ↦ (extendTo cm m >>= (λ cm. pick (prefer && block) (done (Is cm true)) (repeats (exprBpRound deeper later ops prefer bp) cm >>= (λ cm. done (Is cm false)))))
+          | Is cm block ↦ (extendTo cm m >>= (λ cm. cond (prefer && block) (done (Is cm true)) (repeats (exprBpRound deeper later ops prefer bp) cm >>= (λ cm. done (Is cm false)))))
         ]) gotten
         by m Nothing = dropping m _ (ends Nothing gotten)
         by m (Is cm block) =

@@ -4,10 +4,9 @@ use mathlib.Core.Bool.{Bool, true, false, not}
 use Prim.Native.Nat.{ℕ}
 use lib.Dec.{T}
 use Rattle.kinds.specs.Kinds.{THIN-ARROW, IDENT, HARDWAREIDENT, HARDWARE-QUBIT, NAME, RETURN-SIGNATURE}
-use Rattle.kinds.specs.Membership.{oneOf}
+use Rattle.kinds.specs.Membership.{oneOf, both}
 use Rattle.kinds.specs.Sets.{SCALAR-TYPES, TYPES}
 use Rattle.kinds.specs.Messages.{EXPECTED, EXPECTED-A-NAME}
-use Rattle.kinds.proofs.Laws.{both}
 use Rattle.runtime.specs.Acts.{Acts}
 use Rattle.grammar.specs.declared.Got.{Got}
 use Rattle.grammar.specs.Grammar.{Counted, failIfAt, failUnlessAt, nameR, separator, isSome, delimitedRound, delimited, scalarReturn, optRetType}

@@ -1,13 +1,12 @@
 -- The number of a run, case by case. Assumes nothing.
 use mathlib.Core.Path.{_≡_, refl, sym}
-use mathlib.Core.Bool.{Bool, true, false, not}
+use mathlib.Core.Bool.{Bool, true, false, not, cond}
 use Prim.Native.Nat.{ℕ, _≤_, _<_}
 use borrow.Author.Tests.{lt-ltb, le-ltb}
-use Rattle.kinds.specs.Membership.{pick}
+use Rattle.laws.proofs.Tests.{apart}
 use Rattle.runtime.specs.declared.parser.Parser.{Parser}
 use Rattle.runtime.specs.State.{live}
 use Rattle.runtime.specs.Acts.{stopped}
-use Rattle.runtime.proofs.Kept.{apart}
 use Rattle.parse.specs.declared.Entry.{Entry}
 use Rattle.parse.specs.declared.Entry.the-variants.{SourceFile, Item, Expression}
 use Rattle.parse.specs.Parse.{leaves, numberOf}
@@ -16,7 +15,7 @@ module _ (entry : Entry) (tokens : ℕ) (p : Parser) where
   pub refused-number : stopped p ≡ true → p .refused ≡ numberOf entry tokens p
   refused-number = by (live p)
     where
-      by : (b : Bool) → not b ≡ true → p .refused ≡ pick b (leaves entry tokens (p .pos)) (p .refused)
+      by : (b : Bool) → not b ≡ true → p .refused ≡ cond b (leaves entry tokens (p .pos)) (p .refused)
       by true h = apart h
       by false h = refl
 
@@ -24,7 +23,7 @@ module _ (entry : Entry) (tokens : ℕ) (p : Parser) where
     live-number : numberOf entry tokens p ≡ leaves entry tokens (p .pos)
     live-number = by (live p) h
       where
-        by : (b : Bool) → not b ≡ false → pick b (leaves entry tokens (p .pos)) (p .refused) ≡ leaves entry tokens (p .pos)
+        by : (b : Bool) → not b ≡ false → cond b (leaves entry tokens (p .pos)) (p .refused) ≡ leaves entry tokens (p .pos)
         by true h = refl
         by false h = apart (sym h)
 

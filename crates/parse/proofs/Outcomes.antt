@@ -9,11 +9,10 @@ use Rattle.runtime.specs.declared.parser.Parser.{Parser}
 use Rattle.runtime.specs.Input.{Env, env}
 use Rattle.runtime.specs.State.{St, view, new, mostTokens}
 use Rattle.runtime.specs.Acts.{Acts, Does}
-use Rattle.runtime.proofs.Words.{length-places}
+use Rattle.event.proofs.Rooms.{length-events, first-words}
 use Rattle.runtime.proofs.Runs.{held-run}
 use Rattle.parse.specs.declared.Answer.{Answer}
 use Rattle.parse.specs.Parse.{Lent, ends, says, refuses, firstFault, actsOf, ran, numberOf, zeroed, settled, parsed}
-use Rattle.parse.proofs.Rooms.{first-words}
 
 -- a run from `Parser::new()`
 pub begun : {A : Type 0} (e : Env) (m : Acts A) (p : Parser) (room : List ℕ) {a : A} {r : St} → p ≡ new → Does e m (view p room) a r → Does e m (view new room) a r
@@ -23,7 +22,7 @@ begun e m p room {a} {r} q d = subst (λ (x : Parser). Does e m (view x room) a 
 pub has-words : (e : Env) (m : Acts (Unit {0})) (p : Parser) (room mid : List ℕ) → Does e m (view new room) tt (view p mid) → p .len * 2 ≤ length mid
 has-words e m p room mid d =
     let h : p .len ≤ length (view p mid .room) = subst (λ (s : St). s .p .len ≤ length (s .room)) (ap (λ (x : Unit {0} × St). x .1) (d .same)) (held-run e m (view new room) (omega arith)) in
-    omega (arith, length-places mid, h)
+    omega (arith, length-events mid, h)
 
 -- What a run comes to: its list and zeros, or zeros.
 module _ (n : ℕ) (p : Parser) (ws out : List ℕ) where

@@ -1,18 +1,18 @@
 -- What is proved of a parse beside its contract; docs/PROOFS.md has a sentence for each. Assumes nothing.
 use mathlib.Core.Path.{_≡_, refl, sym, ap, _∙_}
 use mathlib.Core.Logic.{_⊎_, inl, inr}
-use mathlib.Core.Bool.{Bool, true, false}
+use mathlib.Core.Bool.{Bool, true, false, cond}
 use mathlib.Core.List.{List, [], _∷_}
 use Prim.Native.Nat.{ℕ, zero, suc, _+_, _<_}
 use native.Mathlib.Omega.{arith}
 use lib.Dec.{eqb, ltb}
 use lib.ListN.{length, getD}
 use borrow.Author.Tests.{eqb-true, ne-eqb}
-use Rattle.kinds.specs.Membership.{pick, oneOf}
+use Rattle.kinds.specs.Membership.{oneOf}
 use Rattle.kinds.specs.Sets.{PERMITTED}
 use Rattle.runtime.specs.Input.{env}
 use Rattle.runtime.specs.State.{view, new}
-use Rattle.runtime.proofs.Kept.{by-pick, apart}
+use Rattle.laws.proofs.Tests.{by-test, apart}
 use Rattle.parse.specs.declared.Entry.{Entry}
 use Rattle.parse.specs.declared.Entry.the-variants.{SourceFile, Item, Expression}
 use Rattle.parse.specs.declared.Answer.{Answer}
@@ -30,18 +30,18 @@ module _ (l : Lent) where
   meeting = met-run (env (l .kinds) (l .joints)) (actsOf (l .entry) (l .mode)) (view new (l .room)) refl
 
   pub is-reason : numberOf (l .entry) (length (l .kinds)) (ran l .p) ≡ reason l
-  is-reason = ap (λ (x : ℕ × ℕ). pick (eqb (x .0) 0) (leaves (l .entry) (length (l .kinds)) (x .1)) (x .0)) meeting
+  is-reason = ap (λ (x : ℕ × ℕ). cond (eqb (x .0) 0) (leaves (l .entry) (length (l .kinds)) (x .1)) (x .0)) meeting
 
   left-reason : (e : Entry) (n i : ℕ) → Reason (leaves e n i)
-  left-reason SourceFile n i = by-pick Reason (ltb i n) 8 0 (λ q. panic) (λ q. none)
+  left-reason SourceFile n i = by-test Reason (ltb i n) 8 0 (λ q. panic) (λ q. none)
   left-reason Item n i = none
   left-reason Expression n i = none
 
   pub has-reason : Reason (reason l)
   has-reason =
-      by-pick Reason (eqb (reaches l .0) 0) (leaves (l .entry) (length (l .kinds)) (reaches l .1)) (reaches l .0)
+      by-test Reason (eqb (reaches l .0) 0) (leaves (l .entry) (length (l .kinds)) (reaches l .1)) (reaches l .0)
       (λ q. left-reason (l .entry) (length (l .kinds)) (reaches l .1))
-      (λ q. met-reason (env (l .kinds) (l .joints)) (actsOf (l .entry) (l .mode)) (view new (l .room)))
+      (λ q. met-reason (env (l .kinds) (l .joints)) (actsOf (l .entry) (l .mode)) (view new (l .room)) refl)
 
   -- Demand 1: a parse answers as the row of the first condition that holds, or hands out its list.
   pub parsed-row : parsed l ≡ row (first (conditions l) 0) l
@@ -59,7 +59,7 @@ module _ (l : Lent) where
       last : Outcome
       last = settled (numberOf (l .entry) (length (l .kinds)) (ran l .p)) (length (l .room)) (ran l)
 
-      by : (a b c d : Bool) → pick a (ends (refuses 1 0) (l .room)) (pick b (ends (refuses 2 0) (l .room)) (pick c (ends (refuses 3 0) (l .room)) (pick d (ends (refuses 4 (firstFault (l .kinds))) (l .room)) last)))
+      by : (a b c d : Bool) → cond a (ends (refuses 1 0) (l .room)) (cond b (ends (refuses 2 0) (l .room)) (cond c (ends (refuses 3 0) (l .room)) (cond d (ends (refuses 4 (firstFault (l .kinds))) (l .room)) last)))
           ≡ row (first (false ∷ a ∷ b ∷ c ∷ d ∷ eqb (reason l) 5 ∷ eqb (reason l) 6 ∷ eqb (reason l) 7 ∷ eqb (reason l) 8 ∷ []) 0) l
       by true b c d = refl
       by false true c d = refl
@@ -109,7 +109,7 @@ module _ (l : Lent) where
   row-code : (n : ℕ) → row n l .answer .code ≡ n
   row-code n = by (eqb n 0) refl
     where
-      by : (b : Bool) → eqb n 0 ≡ b → pick b (handedOut l) (ends (refuses n (placeOf n l)) (leftBy n l)) .answer .code ≡ n
+      by : (b : Bool) → eqb n 0 ≡ b → cond b (handedOut l) (ends (refuses n (placeOf n l)) (leftBy n l)) .answer .code ≡ n
       by true q = sym (eqb-true n 0 q)
       by false q = refl
 
@@ -157,12 +157,12 @@ unfolding firstFault
 fault-first [] i h = absurd (omega arith)
 fault-first (k ∷ ks) zero h = by (oneOf PERMITTED k) refl h
   where
-    by : (b : Bool) → oneOf PERMITTED k ≡ b → 0 < pick b (suc (firstFault ks)) 0 → oneOf PERMITTED k ≡ true
+    by : (b : Bool) → oneOf PERMITTED k ≡ b → 0 < cond b (suc (firstFault ks)) 0 → oneOf PERMITTED k ≡ true
     by true q h = q
     by false q h = absurd (omega arith)
 fault-first (k ∷ ks) (suc i) h = fault-first ks i (by (oneOf PERMITTED k) h)
   where
-    by : (b : Bool) → suc i < pick b (suc (firstFault ks)) 0 → i < firstFault ks
+    by : (b : Bool) → suc i < cond b (suc (firstFault ks)) 0 → i < firstFault ks
     by true h = omega arith
     by false h = absurd (omega arith)
 
@@ -171,7 +171,7 @@ unfolding firstFault
 fault-there [] h = absurd (omega arith)
 fault-there (k ∷ ks) h = by (oneOf PERMITTED k) refl h (fault-there ks)
   where
-    by : (b : Bool) → oneOf PERMITTED k ≡ b → pick b (suc (firstFault ks)) 0 < suc (length ks) → (firstFault ks < length ks → oneOf PERMITTED (getD ks (firstFault ks) 0) ≡ false)
-        → oneOf PERMITTED (getD (k ∷ ks) (pick b (suc (firstFault ks)) 0) 0) ≡ false
+    by : (b : Bool) → oneOf PERMITTED k ≡ b → cond b (suc (firstFault ks)) 0 < suc (length ks) → (firstFault ks < length ks → oneOf PERMITTED (getD ks (firstFault ks) 0) ≡ false)
+        → oneOf PERMITTED (getD (k ∷ ks) (cond b (suc (firstFault ks)) 0) 0) ≡ false
     by true q h r = r (omega arith)
     by false q h r = q

@@ -1,2 +1,3 @@
 pub mod Parse
 pub mod Refusals
+pub mod Handed

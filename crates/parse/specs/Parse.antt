@@ -1,14 +1,14 @@
 -- All that a parse says and leaves, from all that it is lent (docs/RULES.md, sections 1 to 4). Assumes nothing: these are definitions.
-use mathlib.Core.Bool.{Bool}
+use mathlib.Core.Bool.{Bool, cond}
 use mathlib.Core.List.{List, [], _∷_, _++_}
 use Prim.Native.Nat.{ℕ, suc, _+_, _-_, _*_, _/_}
 use lib.Dec.{eqb, ltb}
 use lib.ListN.{length, take, replicate}
-use Rattle.kinds.specs.Membership.{pick, oneOf}
+use Rattle.kinds.specs.Membership.{oneOf}
 use Rattle.kinds.specs.Sets.{PERMITTED}
 use Rattle.runtime.specs.declared.parser.Parser.{Parser}
 use Rattle.runtime.specs.Input.{env}
-use Rattle.runtime.specs.Event.{words}
+use Rattle.event.specs.Event.{eventWords, wordsOf}
 use Rattle.runtime.specs.State.{St, view, new, live, mostTokens}
 use Rattle.runtime.specs.Cover.{events}
 use Rattle.runtime.specs.Acts.{Acts, run}
@@ -57,7 +57,7 @@ fewJoints l = ltb (length (l .joints)) ((length (l .kinds) + 63) / 64)
 
 unfoldable pub firstFault : List ℕ → ℕ
 firstFault [] = 0
-firstFault (k ∷ ks) = pick (oneOf PERMITTED k) (suc (firstFault ks)) 0
+firstFault (k ∷ ks) = cond (oneOf PERMITTED k) (suc (firstFault ks)) 0
 
 abbrev pub notPermitted : Lent → Bool
 notPermitted l = ltb (firstFault (l .kinds)) (length (l .kinds))
@@ -79,7 +79,7 @@ tests = test 1 badMode nowhere ∷ test 2 tooMany nowhere ∷ test 3 fewJoints n
 -- the first test that holds refuses, and leaves the room as it is
 abbrev pub tested : List Test → Lent → Outcome → Outcome
 tested [] l o = o
-tested (t ∷ ts) l o = pick (t .holds l) (ends (refuses (t .number) (t .place l)) (l .room)) (tested ts l o)
+tested (t ∷ ts) l o = cond (t .holds l) (ends (refuses (t .number) (t .place l)) (l .room)) (tested ts l o)
 
 -- The run of an entry, from no events.
 abbrev pub actsOf : Entry → ℕ → Acts (Unit {0})
@@ -92,12 +92,12 @@ ran l = run (env (l .kinds) (l .joints)) (actsOf (l .entry) (l .mode)) (view new
 
 -- The number of a run of so many tokens: its refusal, else 0; a source file that ends with a token left is refused with 8.
 abbrev pub leaves : Entry → ℕ → ℕ → ℕ
-leaves SourceFile tokens pos = pick (ltb pos tokens) 8 0
+leaves SourceFile tokens pos = cond (ltb pos tokens) 8 0
 leaves Item tokens pos = 0
 leaves Expression tokens pos = 0
 
 abbrev pub numberOf : Entry → ℕ → Parser → ℕ
-numberOf entry tokens p = pick (live p) (leaves entry tokens (p .pos)) (p .refused)
+numberOf entry tokens p = cond (live p) (leaves entry tokens (p .pos)) (p .refused)
 
 -- words from a place on made zero
 abbrev pub zeroed : ℕ → List ℕ → List ℕ
@@ -106,7 +106,7 @@ zeroed n ws = take n ws ++ replicate (length ws - n) 0
 -- What a run with a number comes to in a room of so many words: done, its events' words and zeros after them; refused, zeros.
 unfoldable pub settled : ℕ → ℕ → St → Outcome
 settled n size s =
-    pick (eqb n 0) (ends (says 0 (s .p .pos) (s .p .len) (s .p .looks)) (words (events s) ++ replicate (size - s .p .len * 2) 0))
+    cond (eqb n 0) (ends (says 0 (s .p .pos) (s .p .len) (s .p .looks)) (wordsOf (events s) ++ replicate (size - s .p .len * eventWords) 0))
     (ends (refuses n (s .p .pos)) (replicate size 0))
 
 unfoldable pub parsed : Lent → Outcome

@@ -1,10 +1,12 @@
 // The parse: three entries, refusals 1 to 8, and every word of the lent room determined.
 use cycle::entry;
+use event::EVENT_WORDS;
 use kinds::syntax_kind as kind;
 use runtime::parser::Parser;
 ghost use mathlib.Core.Path.{_≡_};
 ghost use Prim.Native.Nat.{_*_, _≤_};
 ghost use lib.ListN.{length};
+ghost use Rattle.event.specs.Event.{eventWords};
 ghost use Rattle.runtime.specs.Input.{env};
 ghost use Rattle.runtime.specs.State.{view, new, Fit};
 ghost use Rattle.runtime.specs.Acts.{Does};
@@ -100,12 +102,12 @@ fn number(entry: Entry, tokens: usize, p: Parser) -> u32
 // What a run comes to: done, its list and zeros after it; refused, nothing but zeros.
 fn settle(entry: Entry, tokens: usize, room: &mut [u32], p: Parser) -> Answer
     requires { ⌜ Fit p ⌝ }
-    requires { ⌜ p .len * 2 ≤ length (now room) ⌝ }
+    requires { ⌜ p .len * eventWords ≤ length (now room) ⌝ }
     ensures { λ r. ⌜ settled (numberOf entry tokens p) (length (now (room .entry))) (view p (now (room .entry))) ≡ ends r (now (room .exit)) ⌝ }
 {
     let n = number(entry, tokens, p);
     if n == 0 {
-        zero_from(room, p.len * 2);
+        zero_from(room, p.len * EVENT_WORDS);
         return Answer {
             code: 0,
             place: p.pos as u32,

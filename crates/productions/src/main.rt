@@ -1,6 +1,7 @@
 // Reads small token lists from standard input, a line each, and writes what the grammar makes of them in mode 0. A line is
 // ` ENTRY JOINTS KIND KIND ..` with a space before each number: 0 is the source file, 1 an item, 2 an expression; the bits of JOINTS
 // are the joint bits. Its answer is `TOKENS EVENTS LOOKUPS` and the events' words, or `refused NUMBER TOKENS`.
+use event::EVENT_WORDS;
 use lines::read::field;
 use lines::read::line_end;
 use lines::read::past;
@@ -59,7 +60,7 @@ fn put_run(p: Parser, room: &[u32])
     put_number(p.pos as u64);
     put_number(p.len as u64);
     put_number(p.looks as u64);
-    let n = p.len as usize * 2;
+    let n = p.len as usize * EVENT_WORDS;
     if n <= room.len() {
         put_words(&room[0..n]);
     }

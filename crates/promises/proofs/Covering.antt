@@ -1,11 +1,12 @@
 -- The token steps of a list are its token events, in order, and so cover what they cover. Assumes nothing.
 use mathlib.Core.Path.{_≡_, refl, _∙_}
 use mathlib.Core.Bool.{cond}
-use mathlib.Core.List.{List, [], _∷_, map}
+use mathlib.Core.List.{List, [], _∷_}
 use Prim.Native.Nat.{ℕ, suc, _+_}
 use native.Mathlib.Omega.{arith}
 use Rattle.runtime.specs.Input.{Env}
-use Rattle.runtime.specs.Event.{Event, Event.start, Event.finish, Event.token, Event.error, Event.none}
+use Rattle.event.specs.declared.Event.{Event}
+use Rattle.event.specs.declared.Event.the-variants.{Start, Finish, Token, Error, NoEvent}
 use Rattle.runtime.specs.Cover.{Covers}
 use Rattle.records.specs.declared.Step.{Step}
 use Rattle.records.specs.declared.Step.the-variants.{Enter as enter, Leave as leave, Token as taken, Error as failed}
@@ -13,7 +14,6 @@ use Rattle.events.specs.Process.{Placed, process, stepsOf}
 use Rattle.events.specs.Shape.{isEnter, others, plain}
 use Rattle.events.proofs.Order.{in-order}
 use Rattle.promises.specs.Promised.{SaysAt, rawOf, CoverSteps, rawSum}
-use Rattle.promises.proofs.Passing.{read}
 
 -- steps that enter say nothing of tokens
 cover-others : (e : Env) (ps : List Placed) (i j : ℕ) → CoverSteps e i (stepsOf (others ps)) j → CoverSteps e i (stepsOf ps) j
@@ -32,17 +32,17 @@ cover-others e (p ∷ ps) i j h = by (p .step) refl h (cover-others e ps)
     by (failed c a) q h r = let g : Unit {0} × CoverSteps e (i + 0) (stepsOf (others ps)) j = rw q at h in rw q (tt, r (i + 0) j (g .1))
 
 -- the steps that are no enter, of a list whose token events cover
-cover-plain : (e : Env) (p : ℕ) (l : List Event) (i j : ℕ) → Covers e i l j → CoverSteps e i (stepsOf (plain p (map read l))) j
+cover-plain : (e : Env) (p : ℕ) (l : List Event) (i j : ℕ) → Covers e i l j → CoverSteps e i (stepsOf (plain p l)) j
 unfolding plain
 cover-plain e p [] i j h = h
-cover-plain e p (start k d ∷ l) i j h = cover-plain e (suc p) l i j (h .1)
-cover-plain e p (finish ∷ l) i j h = let z : i + 0 ≡ i = omega arith in (tt, rw z (cover-plain e (suc p) l i j (h .1)))
-cover-plain e p (token k n ∷ l) i j h = (h .0, cover-plain e (suc p) l (i + n) j (h .1))
-cover-plain e p (error c a ∷ l) i j h = let z : i + 0 ≡ i = omega arith in (tt, rw z (cover-plain e (suc p) l i j (h .1)))
-cover-plain e p (none a b ∷ l) i j h = cover-plain e (suc p) l i j (h .1)
+cover-plain e p (Start k d ∷ l) i j h = cover-plain e (suc p) l i j (h .1)
+cover-plain e p (Finish ∷ l) i j h = let z : i + 0 ≡ i = omega arith in (tt, rw z (cover-plain e (suc p) l i j (h .1)))
+cover-plain e p (Token k n ∷ l) i j h = (h .0, cover-plain e (suc p) l (i + n) j (h .1))
+cover-plain e p (Error c a ∷ l) i j h = let z : i + 0 ≡ i = omega arith in (tt, rw z (cover-plain e (suc p) l i j (h .1)))
+cover-plain e p (NoEvent a b ∷ l) i j h = cover-plain e (suc p) l i j (h .1)
 
-pub cover-steps : (e : Env) (l : List Event) (i j : ℕ) → Covers e i l j → CoverSteps e i (stepsOf (process (map read l) .steps)) j
-cover-steps e l i j h = cover-others e (process (map read l) .steps) i j (rw (in-order (map read l)) (cover-plain e 0 l i j h))
+pub cover-steps : (e : Env) (l : List Event) (i j : ℕ) → Covers e i l j → CoverSteps e i (stepsOf (process l .steps)) j
+cover-steps e l i j h = cover-others e (process l .steps) i j (rw (in-order l) (cover-plain e 0 l i j h))
 
 -- what is covered is as much as the raw counts add up to
 pub cover-sum : (e : Env) (ss : List Step) (i j : ℕ) → CoverSteps e i ss j → i + rawSum ss ≡ j

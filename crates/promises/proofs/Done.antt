@@ -1,6 +1,6 @@
 -- The run behind a done parse: it is not refused, its kinds fit, and its list is well made. Assumes nothing.
 use mathlib.Core.Path.{_≡_, refl, sym, ap, _∙_}
-use mathlib.Core.Bool.{Bool, true, false}
+use mathlib.Core.Bool.{Bool, true, false, cond}
 use mathlib.Core.List.{List, [], _∷_}
 use Prim.Native.Nat.{ℕ, zero, suc, _*_, _≤_, _<_}
 use native.Mathlib.Omega.{arith}
@@ -9,14 +9,15 @@ use lib.ListN.{length, getD, take}
 use lib.Seq.{take-at, length-take-le}
 use borrow.Author.Tests.{eqb-true, eqb-false, ltb-false}
 use Rattle.kinds.specs.Kinds.{EOF}
-use Rattle.kinds.specs.Membership.{pick, oneOf}
+use Rattle.kinds.specs.Membership.{oneOf, both}
 use Rattle.kinds.specs.Sets.{PERMITTED}
-use Rattle.kinds.proofs.Laws.{both, both-parts}
+use Rattle.kinds.proofs.Laws.{both-parts}
 use Rattle.runtime.specs.Input.{env}
-use Rattle.runtime.specs.Event.{words}
+use Rattle.event.specs.Event.{wordsOf}
+use Rattle.laws.proofs.Tests.{apart}
+use Rattle.event.proofs.Rooms.{length-words}
 use Rattle.runtime.specs.State.{view, new, live, Fit}
 use Rattle.runtime.specs.Cover.{events}
-use Rattle.runtime.proofs.Kept.{apart}
 use Rattle.runtime.proofs.Runs.{fit-run, Held, held-run}
 use Rattle.grammar.specs.Operators.{tableOf}
 use Rattle.parse.specs.declared.Entry.{Entry}
@@ -27,10 +28,9 @@ use Rattle.parse.proofs.Reached.{Reason, Reason.none, Reason.room, Reason.deep,
 use Rattle.parse.proofs.Theorems.{is-reason, has-reason, done-when, hands-out}
 use Rattle.markers.proofs.Marks.{Marks}
 use Rattle.markers.proofs.Live.{Live, live-none}
-use Rattle.markers.proofs.Safe.{small, Bounded, Sound, safe-run}
+use Rattle.markers.proofs.Safe.{small, Bounded, WellMade, safe-run}
 use Rattle.markers.proofs.Calculus.{Opens, Opens.base, Run, none as no-marker}
 use Rattle.markers.proofs.OfEntry.{source-file, one-item, one-expression}
-use Rattle.promises.proofs.Passing.{count-words}
 
 -- permitted kinds fit 16 bits
 allSmall : List ℕ → Bool
@@ -42,7 +42,7 @@ unfolding allSmall oneOf
 listed-small [] k t h = apart h
 listed-small (x ∷ xs) k t h = by (eqb k x) refl h (listed-small xs k (both-parts (small x) (allSmall xs) t .1))
   where
-    by : (b : Bool) → eqb k x ≡ b → pick b true (oneOf xs k) ≡ true → (oneOf xs k ≡ true → k < 65536) → k < 65536
+    by : (b : Bool) → eqb k x ≡ b → cond b true (oneOf xs k) ≡ true → (oneOf xs k ≡ true → k < 65536) → k < 65536
     by true q e r = rw (eqb-true k x q) (ltb→lt _ _ (both-parts (small x) (allSmall xs) t .0))
     by false q e r = r e
 
@@ -51,7 +51,7 @@ unfolding firstFault allSmall
 kinds-small [] h i = omega arith
 kinds-small (k ∷ ks) h i = by (oneOf PERMITTED k) refl h i (kinds-small ks)
   where
-    by : (b : Bool) → oneOf PERMITTED k ≡ b → suc (length ks) ≤ pick b (suc (firstFault ks)) 0 → (i : ℕ) → (length ks ≤ firstFault ks → (j : ℕ) → getD ks j EOF < 65536) → getD (k ∷ ks) i EOF < 65536
+    by : (b : Bool) → oneOf PERMITTED k ≡ b → suc (length ks) ≤ cond b (suc (firstFault ks)) 0 → (i : ℕ) → (length ks ≤ firstFault ks → (j : ℕ) → getD ks j EOF < 65536) → getD (k ∷ ks) i EOF < 65536
     by true q g zero r = listed-small PERMITTED k tt q
     by true q g (suc i) r = r (omega arith) i
     by false q g i r = absurd (omega arith)
@@ -65,7 +65,7 @@ orderly Expression mode = one-expression (tableOf mode)
 pub fit-new : Fit new
 fit-new = record { few = omega arith; near = omega arith; all = omega arith; short = omega arith }
 
-pub begins : (ws : List ℕ) → Sound [] (view new ws)
+pub begins : (ws : List ℕ) → WellMade [] (view new ws)
 begins ws = record { list = λ z. live-none }
 
 pub holds-none : (ws : List ℕ) → Held (view new ws)
@@ -89,7 +89,7 @@ module _ (l : Lent) (done : parsed l .answer .code ≡ 0) where
   pub ended : (ran l .p .refused ≡ 0) × (leaves (l .entry) (length (l .kinds)) (ran l .p .pos) ≡ 0)
   ended = by (live (ran l .p)) refl (is-reason l ∙ no-reason)
     where
-      by : (b : Bool) → live (ran l .p) ≡ b → pick b (leaves (l .entry) (length (l .kinds)) (ran l .p .pos)) (ran l .p .refused) ≡ 0 → (ran l .p .refused ≡ 0) × (leaves (l .entry) (length (l .kinds)) (ran l .p .pos) ≡ 0)
+      by : (b : Bool) → live (ran l .p) ≡ b → cond b (leaves (l .entry) (length (l .kinds)) (ran l .p .pos)) (ran l .p .refused) ≡ 0 → (ran l .p .refused ≡ 0) × (leaves (l .entry) (length (l .kinds)) (ran l .p .pos) ≡ 0)
       by true q e = (eqb-true _ _ q, e)
       by false q e = absurd (eqb-false _ _ q e)
 
@@ -103,7 +103,7 @@ module _ (l : Lent) (done : parsed l .answer .code ≡ 0) where
   few-events = rw event-count (fit-run (env (l .kinds) (l .joints)) (actsOf (l .entry) (l .mode)) (view new (l .room)) fit-new .short)
 
   -- the list that is handed out is the run's
-  pub handed-list : take (parsed l .answer .events * 2) (parsed l .room) ≡ words (events (ran l))
+  pub handed-list : take (parsed l .answer .events * 2) (parsed l .room) ≡ wordsOf (events (ran l))
   handed-list =
       ap (λ (o : Outcome). take (o .answer .events * 2) (o .room)) (hands-out l done)
-      ∙ take-at (words (events (ran l))) _ (ran l .p .len * 2) (count-words (events (ran l)) ∙ ap (λ (n : ℕ). n * 2) event-count)
+      ∙ take-at (wordsOf (events (ran l))) _ (ran l .p .len * 2) (length-words (events (ran l)) ∙ ap (λ (n : ℕ). n * 2) event-count)

@@ -1,25 +1,25 @@
 -- What is promised of every parse, in one place; docs/PROOFS.md has a sentence for each. Assumes nothing.
 use mathlib.Core.Path.{_≡_, refl, sym, ap, _∙_, subst}
-use mathlib.Core.Bool.{Bool, true, false}
-use mathlib.Core.List.{List, [], _∷_, _++_, map, map-append}
+use mathlib.Core.Bool.{Bool, true, false, cond}
+use mathlib.Core.List.{List, [], _∷_, _++_}
 use Prim.Native.Nat.{ℕ, suc, _+_, _≤_}
 use native.Mathlib.Omega.{arith}
 use lib.Dec.{ltb}
 use lib.ListN.{length, getD, replicate, length-append}
 use borrow.Author.Tests.{ltb-false}
 use Rattle.kinds.specs.Kinds.{SOURCE-FILE}
-use Rattle.kinds.specs.Membership.{pick}
+use Rattle.event.specs.declared.Event.{Event}
+use Rattle.event.specs.declared.Event.the-variants.{Start, Finish, NoEvent}
+use Rattle.event.specs.Event.{eventsOf, wordsOf, tombstone}
+use Rattle.event.proofs.Rooms.{events-words}
 use Rattle.runtime.specs.Input.{env}
-use Rattle.runtime.specs.Event.{Event, Event.start, Event.finish, Event.token, Event.error, Event.none}
 use Rattle.runtime.specs.State.{view, new}
 use Rattle.runtime.specs.Cover.{events}
 use Rattle.runtime.specs.Acts.{run}
 use Rattle.runtime.proofs.Runs.{inside-run}
 use Rattle.runtime.proofs.Covered.{covered}
 use Rattle.grammar.specs.Operators.{tableOf}
-use Rattle.events.specs.declared.event.Event.the-variants.{Start, Finish, NoEvent}
 use Rattle.records.specs.declared.Step.the-variants.{Enter as enter}
-use Rattle.events.specs.Event.{eventsOf, wordsOf, tombstone}
 use Rattle.records.specs.Record.{bytes, over}
 use Rattle.stepfile.specs.Answer as S
 use Rattle.stepfile.specs.File.{fileRead}
@@ -39,11 +39,12 @@ use Rattle.markers.proofs.Marks.{Marker.fresh, Marker.made, Marker.shut, Marks}
 use Rattle.markers.proofs.Safe.{Safe}
 use Rattle.markers.proofs.Discipline.{Orderly, safe-orderly}
 use Rattle.markers.proofs.Calculus.{weaken, Opens, Opens.base, Opens.extra}
-use Rattle.promises.specs.Promised.{handed, stepsIn, CoverSteps, rawSum, Rooted}
-use Rattle.promises.proofs.Passing.{read, read-words, Chained, lands-there, scan-passes, live-passes}
+use Rattle.parse.specs.Handed.{handed, stepsIn}
+use Rattle.promises.specs.Promised.{CoverSteps, rawSum, Rooted}
+use Rattle.promises.proofs.Passing.{Chain, scan-passes, live-passes}
 use Rattle.promises.proofs.Done.{kinds-small, orderly, fit-new, begins, holds-none, bounded, ended, well-made, event-count, few-events, handed-list}
 use Rattle.promises.proofs.Covering.{cover-steps, cover-sum}
-use Rattle.promises.proofs.Tree.{Chain, rooted}
+use Rattle.promises.proofs.Tree.{rooted}
 use Rattle.promises.proofs.Root.{Around, source-around}
 use Rattle.promises.proofs.Written.{rooted-nests, file-good}
 
@@ -54,19 +55,10 @@ AllShut (fresh i ∷ o) = ⊥
 AllShut (made i ∷ o) = ⊥
 AllShut (shut i ∷ o) = AllShut o
 
-chain-read : (l : List Event) → Chained l → Chain (map read l)
-chain-read [] c = tt
-chain-read (start k d ∷ l) c = (lands-there l d (c .0), chain-read l (c .1))
-chain-read (finish ∷ l) c = (refl, chain-read l (c .1))
-chain-read (token k n ∷ l) c = (refl, chain-read l (c .1))
-chain-read (error x a ∷ l) c = (refl, chain-read l (c .1))
-chain-read (none a b ∷ l) c = (refl, chain-read l (c .1))
-
-tree : (body : List Event) → Balanced 0 body 0 → Chained body → Rooted SOURCE-FILE (stepsOf (process (map read (start SOURCE-FILE 0 ∷ (body ++ finish ∷ []))) .steps))
+tree : (body : List Event) → Balanced 0 body 0 → Chain body → Rooted SOURCE-FILE (stepsOf (process (Start SOURCE-FILE 0 ∷ (body ++ Finish ∷ [])) .steps))
 tree body b c =
-    let q : map read (body ++ finish ∷ []) ≡ map read body ++ Finish ∷ [] = map-append read body (finish ∷ []) in
-    let n : length (map read body ++ Finish ∷ []) ≡ suc (length (map read body)) = length-append (map read body) (Finish ∷ []) ∙ omega arith in
-    rw (q, n) (rooted SOURCE-FILE (map read body) (λ z. omega arith) (chain-read body c) (ap (λ (x : Numbers). x .code) (scan-passes body 0 0 b c)))
+    let n : length (body ++ Finish ∷ []) ≡ suc (length body) = length-append body (Finish ∷ []) ∙ omega arith in
+    rw n (rooted SOURCE-FILE body (λ z. omega arith) c (ap (λ (x : Numbers). x .code) (scan-passes body 0 0 b c)))
 
 module _ (l : Lent) (done : parsed l .answer .code ≡ 0) where
   count-said : parsed l .answer .events ≡ ran l .p .len
@@ -95,15 +87,15 @@ module _ (l : Lent) (done : parsed l .answer .code ≡ 0) where
   steps-close = passing-closes (handed (parsed l)) passes
 
   -- Each completed start is entered exactly once,
-  pub starts-entered : (i k d : ℕ) → getD (eventsOf (handed (parsed l))) i NoEvent ≡ Start k d → (k ≡ 0 → ⊥) → from i (process (eventsOf (handed (parsed l))) .steps) ≡ enter k ∷ []
+  pub starts-entered : (i k d : ℕ) → getD (eventsOf (handed (parsed l))) i (NoEvent 0 0) ≡ Start k d → (k ≡ 0 → ⊥) → from i (process (eventsOf (handed (parsed l))) .steps) ≡ enter k ∷ []
   starts-entered i k d = entered-once (eventsOf (handed (parsed l))) i k d
 
   -- and tokens, errors and finishes keep their order.
   pub steps-ordered : others (process (eventsOf (handed (parsed l))) .steps) ≡ plain 0 (eventsOf (handed (parsed l)))
   steps-ordered = in-order (eventsOf (handed (parsed l)))
 
-  list-read : eventsOf (handed (parsed l)) ≡ map read (events (ran l))
-  list-read = rw (handed-list l done) (read-words (events (ran l)) (well-made l done .2 .sounds))
+  list-read : eventsOf (handed (parsed l)) ≡ events (ran l)
+  list-read = rw (handed-list l done) (events-words (events (ran l)) (well-made l done .2 .sounds))
 
   -- The token steps cover the tokens consumed, in order, each with its kind or glue,
   pub steps-cover : CoverSteps (env (l .kinds) (l .joints)) 0 (stepsIn (parsed l)) (parsed l .answer .place)
@@ -124,7 +116,7 @@ module _ (l : Lent) (done : parsed l .answer .code ≡ 0) where
         by : (e : Entry) → e ≡ SourceFile → leaves e (length (l .kinds)) (ran l .p .pos) ≡ 0 → ran l .p .pos ≤ length (l .kinds) → ran l .p .pos ≡ length (l .kinds)
         by e q z m = on (ltb (ran l .p .pos) (length (l .kinds))) refl (rw q at z)
           where
-            on : (b : Bool) → ltb (ran l .p .pos) (length (l .kinds)) ≡ b → _≡_ {A = ℕ} (pick b 8 0) 0 → ran l .p .pos ≡ length (l .kinds)
+            on : (b : Bool) → ltb (ran l .p .pos) (length (l .kinds)) ≡ b → _≡_ {A = ℕ} (cond b 8 0) 0 → ran l .p .pos ≡ length (l .kinds)
             on true w x = absurd (omega arith)
             on false w x = let g : length (l .kinds) ≤ ran l .p .pos = ltb-false _ _ w in omega arith
 

@@ -6,12 +6,12 @@ use Prim.Native.Nat.{ℕ, zero, suc, _+_}
 use native.Mathlib.Omega.{arith}
 use lib.ListN.{length}
 use borrow.Author.Tests.{ne-eqb}
-use Rattle.runtime.proofs.Kept.{apart}
-use Rattle.events.specs.declared.event.Event.{Event}
-use Rattle.events.specs.declared.event.Event.the-variants.{Start, Finish, Token, Error, NoEvent}
+use Rattle.laws.proofs.Tests.{apart}
+use Rattle.event.specs.declared.Event.{Event}
+use Rattle.event.specs.declared.Event.the-variants.{Start, Finish, Token, Error, NoEvent}
+use Rattle.event.specs.Event.{distance}
 use Rattle.records.specs.declared.Step.{Step}
 use Rattle.records.specs.declared.Step.the-variants.{Enter as enter, Leave as leave, Token as taken, Error as failed}
-use Rattle.events.specs.Event.{distance}
 use Rattle.events.specs.Check.{lands, scan}
 use Rattle.events.specs.Process.{Parent, follow, entered, turn, turns, stepsOf}
 use Rattle.events.specs.Shape.{closes}
@@ -20,11 +20,7 @@ use Rattle.events.proofs.Passing.{lands-follow}
 use Rattle.events.proofs.Depth.{closes-turns}
 use Rattle.stepfile.specs.Nesting.{nest, nests}
 use Rattle.promises.specs.Promised.{Rooted}
-
--- each distance lands on a start behind it
-abbrev pub Chain : List Event → Type 0
-Chain [] = Unit {0}
-Chain (e ∷ es) = (lands es (distance e) ≡ true) × Chain es
+use Rattle.promises.proofs.Passing.{Chain}
 
 chain-follow : (p : ℕ) (es : List Event) (d : ℕ) → Chain es → Chain (follow p es d .left)
 unfolding follow
@@ -35,7 +31,7 @@ chain-follow p (Start k f ∷ es) (suc zero) c = (refl, chain-follow (suc p) es 
 chain-follow p (Finish ∷ es) (suc zero) c = c
 chain-follow p (Token k n ∷ es) (suc zero) c = c
 chain-follow p (Error x y ∷ es) (suc zero) c = c
-chain-follow p (NoEvent ∷ es) (suc zero) c = c
+chain-follow p (NoEvent a b ∷ es) (suc zero) c = c
 chain-follow p (e ∷ es) (suc (suc d)) c = (lands-follow (suc p) es (suc d) (distance e) ∙ c .0, chain-follow (suc p) es (suc d) (c .1))
 
 -- what comes behind a list is not met by its chains
@@ -51,7 +47,7 @@ follow-before p (Start k f ∷ es) us (suc zero) c h =
 follow-before p (Finish ∷ es) us (suc zero) c h = apart h
 follow-before p (Token k n ∷ es) us (suc zero) c h = apart h
 follow-before p (Error x y ∷ es) us (suc zero) c h = apart h
-follow-before p (NoEvent ∷ es) us (suc zero) c h = apart h
+follow-before p (NoEvent a b ∷ es) us (suc zero) c h = apart h
 follow-before p (e ∷ es) us (suc (suc d)) c h = let r = follow-before (suc p) es us (suc d) (c .1) h in (r .0, ap (λ (xs : List Event). e ∷ xs) (r .1))
 
 turn-before : (p : ℕ) (e : Event) (es us : List Event) → Chain (e ∷ es) → (turn p e (es ++ us) .steps ≡ turn p e es .steps) × (turn p e (es ++ us) .left ≡ turn p e es .left ++ us)
@@ -60,7 +56,7 @@ turn-before p (Start k d) es us c = let r = follow-before (suc p) es us d (c .1)
 turn-before p Finish es us c = (refl, refl)
 turn-before p (Token k n) es us c = (refl, refl)
 turn-before p (Error x y) es us c = (refl, refl)
-turn-before p NoEvent es us c = (refl, refl)
+turn-before p (NoEvent a b) es us c = (refl, refl)
 
 chain-turn : (p : ℕ) (e : Event) (es : List Event) → Chain (e ∷ es) → Chain (turn p e es .left)
 unfolding turn
@@ -68,7 +64,7 @@ chain-turn p (Start k d) es c = chain-follow (suc p) es d (c .1)
 chain-turn p Finish es c = c .1
 chain-turn p (Token k n) es c = c .1
 chain-turn p (Error x y) es c = c .1
-chain-turn p NoEvent es c = c .1
+chain-turn p (NoEvent a b) es c = c .1
 
 -- a finish behind a list comes last
 steps-finish : (n p : ℕ) (es : List Event) → length es ≡ n → Chain es → stepsOf (turns (suc n) p (es ++ Finish ∷ []) .steps) ≡ stepsOf (turns n p es .steps) ++ leave ∷ []

@@ -11,10 +11,10 @@ use borrow.Author.Tests.{eqb-false, leb-true, ltb-true}
 use Rattle.records.specs.declared.Step.{Step}
 use Rattle.records.specs.declared.Step.the-variants.{Enter as enter}
 use Rattle.records.specs.Record.{bytes, over, Sounds}
-use Rattle.records.proofs.Tests.{by-test}
-use Rattle.events.specs.declared.event.Event.{Event}
-use Rattle.events.specs.declared.event.Event.the-variants.{Start, Finish, Token, Error, NoEvent}
-use Rattle.events.specs.Event.{decode, eventsOf, wordsOf, tombstone}
+use Rattle.laws.proofs.Tests.{by-test}
+use Rattle.event.specs.declared.Event.{Event}
+use Rattle.event.specs.declared.Event.the-variants.{Start, Finish, Token, Error, NoEvent}
+use Rattle.event.specs.Event.{decode, eventsOf, wordsOf, tombstone}
 use Rattle.events.specs.Answer.{says}
 use Rattle.events.specs.Check.{checked}
 use Rattle.events.specs.Process.{Parent, placed, follow, enters, entered, turn, turns, process, stepsOf}
@@ -70,7 +70,7 @@ follow-fair p (Start k f ∷ es) (suc zero) h = let r = follow-fair (suc p) es f
 follow-fair p (Finish ∷ es) (suc zero) h = (tt, h)
 follow-fair p (Token k n ∷ es) (suc zero) h = (tt, h)
 follow-fair p (Error c x ∷ es) (suc zero) h = (tt, h)
-follow-fair p (NoEvent ∷ es) (suc zero) h = (tt, h)
+follow-fair p (NoEvent a b ∷ es) (suc zero) h = (tt, h)
 follow-fair p (e ∷ es) (suc (suc d)) h = let r = follow-fair (suc p) es (suc d) (h .1) in (r .0, (h .0, r .1))
 
 placed-sound : (p : ℕ) (ss : List Step) → Sounds ss → Sounds (stepsOf (placed p ss))
@@ -88,7 +88,7 @@ turn-sound p (Start k d) es h g = let r = follow-fair (suc p) es d g in (entered
 turn-sound p Finish es h g = (h, g)
 turn-sound p (Token k n) es h g = (h, g)
 turn-sound p (Error c x) es h g = (h, g)
-turn-sound p NoEvent es h g = (tt, g)
+turn-sound p (NoEvent a b) es h g = (tt, g)
 
 turns-sound : (n p : ℕ) (es : List Event) → Fairs es → Sounds (stepsOf (turns n p es .steps))
 unfolding turns

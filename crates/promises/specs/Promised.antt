@@ -2,23 +2,12 @@
 use mathlib.Core.Path.{_≡_}
 use mathlib.Core.Bool.{true}
 use mathlib.Core.List.{List, [], _∷_}
-use Prim.Native.Nat.{ℕ, _+_, _*_}
-use lib.ListN.{take}
+use Prim.Native.Nat.{ℕ, _+_}
 use Rattle.runtime.specs.Input.{Env}
 use Rattle.runtime.specs.Cover.{Stands}
 use Rattle.records.specs.declared.Step.{Step}
 use Rattle.records.specs.declared.Step.the-variants.{Enter as enter, Leave as leave, Token as token, Error as error}
-use Rattle.events.specs.Event.{eventsOf}
-use Rattle.events.specs.Process.{process, stepsOf}
 use Rattle.stepfile.specs.Nesting.{nests}
-use Rattle.parse.specs.Parse.{Outcome}
-
--- the words that a parse hands out, and the steps that they resolve to
-abbrev pub handed : Outcome → List ℕ
-handed o = take (o .answer .events * 2) (o .room)
-
-abbrev pub stepsIn : Outcome → List Step
-stepsIn o = stepsOf (process (eventsOf (handed o)) .steps)
 
 -- A token step says what stands at i: its raw count of tokens, of its kind or glued to it with the joint bits that this needs. Steps
 -- cover the tokens from i up to j when their token steps, left to right, are about all of them, none left out and none twice.

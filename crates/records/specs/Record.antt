@@ -20,6 +20,10 @@ recordOf Leave = framed 2 []
 recordOf (Token k n) = framed 3 (le16 k ++ (n ∷ []))
 recordOf (Error c x) = framed 4 (le16 c ++ le16 x)
 
+-- no record has more bytes than these
+abbrev pub stepBytes : ℕ
+stepBytes = 8
+
 unfoldable pub bytes : List Step → List ℕ
 bytes [] = []
 bytes (s ∷ ss) = recordOf s ++ bytes ss

@@ -6,6 +6,7 @@ use crate::read::past_words;
 use crate::show::put_bytes;
 use crate::show::put_field;
 use crate::show::put_words;
+use event::EVENT_WORDS;
 use lines::out::put;
 use lines::out::put_number;
 use lines::out::put_text;
@@ -150,7 +151,7 @@ fn rest_state(code: u32, rest: &[u32]) -> State {
 // The words of the events that an answer has.
 fn event_words(a: parse::Answer) -> usize {
     if a.code == 0 {
-        return 2 * a.events as usize;
+        return EVENT_WORDS * a.events as usize;
     }
     0
 }

@@ -1,18 +1,18 @@
 -- Kinds that are one token: the bits of the code's constant against the glued kinds, by one test that antt computes. Assumes nothing.
 use mathlib.Core.Path.{_≡_, refl, sym, _∙_}
 use mathlib.Core.List.{List, [], _∷_}
-use mathlib.Core.Bool.{Bool, true, false}
-use Prim.Native.Nat.{ℕ, _+_, _/_, _%_, _^_, _≤_, _<_}
+use mathlib.Core.Bool.{Bool, true, false, cond}
+use Prim.Native.Nat.{ℕ, _/_, _%_, _^_, _≤_, _<_}
 use native.Mathlib.Omega.{arith}
 use lib.Dec.{T, eqb, ltb, ltb→lt}
 use borrow.Author.Tests.{ne-eqb}
-use Rattle.kinds.specs.Membership.{pick, bit}
-use Rattle.kinds.proofs.Laws.{both, both-parts, agree, agreed, bit-in}
+use Rattle.kinds.specs.Membership.{bit, both}
+use Rattle.kinds.proofs.Laws.{both-parts, agree, agreed, bit-in}
 use Rattle.runtime.specs.declared.input.Parts.{Parts}
 use Rattle.runtime.specs.declared.input.Parts.the-variants.{One}
 use Rattle.runtime.specs.Input.{Env, seen}
 use Rattle.runtime.specs.Glue.{gluedKinds, partsIn, partsOf, isOne, standsAt}
-use Rattle.runtime.proofs.Kept.{apart}
+use Rattle.laws.proofs.Tests.{apart}
 
 -- the code's constant
 abbrev pub plainBits : ℕ
@@ -44,15 +44,15 @@ above-plain k h = rw (alone 64 k gluedKinds tt (omega arith))
 -- a kind of one token is its own part: no glued kind has one
 unfoldable noneOne : List (ℕ × Parts) → Bool
 noneOne [] = true
-noneOne (g ∷ gs) = both (pick (isOne (g .1)) false true) (noneOne gs)
+noneOne (g ∷ gs) = both (cond (isOne (g .1)) false true) (noneOne gs)
 
 own : (k : ℕ) (gs : List (ℕ × Parts)) → T (noneOne gs) → isOne (partsIn k gs) ≡ true → partsIn k gs ≡ One k
 unfolding noneOne
 own k [] t h = refl
 own k (g ∷ gs) t h =
-    by (eqb k (g .0)) (isOne (g .1)) refl (both-parts (pick (isOne (g .1)) false true) (noneOne gs) t .0) (own k gs (both-parts (pick (isOne (g .1)) false true) (noneOne gs) t .1)) h
+    by (eqb k (g .0)) (isOne (g .1)) refl (both-parts (cond (isOne (g .1)) false true) (noneOne gs) t .0) (own k gs (both-parts (cond (isOne (g .1)) false true) (noneOne gs) t .1)) h
   where
-    by : (b o : Bool) → isOne (g .1) ≡ o → T (pick o false true) → (isOne (partsIn k gs) ≡ true → partsIn k gs ≡ One k) → isOne (pick b (g .1) (partsIn k gs)) ≡ true → pick b (g .1) (partsIn k gs) ≡ One k
+    by : (b o : Bool) → isOne (g .1) ≡ o → T (cond o false true) → (isOne (partsIn k gs) ≡ true → partsIn k gs ≡ One k) → isOne (cond b (g .1) (partsIn k gs)) ≡ true → cond b (g .1) (partsIn k gs) ≡ One k
     by true true q t r z = absurd t
     by true false q t r z = apart (sym q ∙ z)
     by false o q t r z = r z

@@ -15,11 +15,13 @@ use Rattle.runtime.specs.declared.input.Parts.{Parts}
 use Rattle.runtime.specs.declared.input.Parts.the-variants.{One, Two, Three}
 use Rattle.runtime.specs.Input.{Env}
 use Rattle.runtime.specs.Glue.{rawCount}
-use Rattle.runtime.specs.Event.{Event, Event.none}
+use Rattle.event.specs.declared.Event.{Event}
+use Rattle.event.specs.declared.Event.the-variants.{Token, NoEvent}
+use Rattle.laws.proofs.Tests.{by-test}
 use Rattle.runtime.specs.State.{St, mostTokens, mostLooks, refusal, counted, consumed, Fit}
 use Rattle.runtime.specs.Cover.{Stands}
 use Rattle.runtime.specs.Acts.{Acts, run, left}
-use Rattle.runtime.proofs.Kept.{Kept, kept-run, by-pick}
+use Rattle.runtime.proofs.Kept.{Kept, kept-run}
 
 -- a token is made of one, two or three
 pub few-parts : (g : Parts) → (1 ≤ rawCount g) × (rawCount g ≤ 3)
@@ -75,9 +77,9 @@ helds e =
       refusing = λ n r z h. h;
       looking = λ r z l h. h;
       pushing = λ v r t z l h. rw (length-set (r .room) (r .p .len) v) (omega arith);
-      moving = λ k n r t q z l h. rw (length-set (r .room) (r .p .len) (Event.token k n)) (omega arith);
+      moving = λ k n r t q z l h. rw (length-set (r .room) (r .p .len) (Token k n)) (omega arith);
       changing = λ i v r l t u z h. rw (length-set (r .room) i v) h;
-      popping = λ r m l t z h. rw (length-set (r .room) (r .p .len - 1) (none 0 0)) (omega arith);
+      popping = λ r m l t z h. rw (length-set (r .room) (r .p .len - 1) (NoEvent 0 0)) (omega arith);
     }
 
 pub held-run : {A : Type 0} (e : Env) (m : Acts A) (s : St) → Held s → Held (run e m s .1)
@@ -85,21 +87,21 @@ held-run e m s h = kept-run e Held (helds e) m s h
 
 -- Past the events a place is as it came in, or its words are zero: an event stood there and was taken away.
 abbrev pub AsCame : List Event → List Event → ℕ → Type 0
-AsCame l r i = (getD r i (none 0 0) ≡ getD l i (none 0 0)) ⊎ (getD r i (none 0 0) ≡ none 0 0)
+AsCame l r i = (getD r i (NoEvent 0 0) ≡ getD l i (NoEvent 0 0)) ⊎ (getD r i (NoEvent 0 0) ≡ NoEvent 0 0)
 
 pub record Past (l : List Event) (s : St) : Type 0 where
   pub place : (i : ℕ) → s .p .len ≤ i → AsCame l (s .room) i
 
 -- a store below what is looked at
 below : (l r : List Event) (i j : ℕ) (v : Event) → i < j → AsCame l r j → AsCame l (set r i v) j
-below l r i j v h o = rw (getD-set-other r i j v (none 0 0) (omega arith)) o
+below l r i j v h o = rw (getD-set-other r i j v (NoEvent 0 0) (omega arith)) o
 
-zero-there : (l : List Event) (i : ℕ) → getD (set l i (none 0 0)) i (none 0 0) ≡ none 0 0
+zero-there : (l : List Event) (i : ℕ) → getD (set l i (NoEvent 0 0)) i (NoEvent 0 0) ≡ NoEvent 0 0
 zero-there l i = by (ltb i (length l)) refl
   where
-    by : (b : Bool) → ltb i (length l) ≡ b → getD (set l i (none 0 0)) i (none 0 0) ≡ none 0 0
-    by true q = getD-set-same l i (none 0 0) (none 0 0) (ltb-true _ _ q)
-    by false q = List·getD-eq-default (set l i (none 0 0)) (none 0 0) (rw (length-set l i (none 0 0)) (ltb-false _ _ q))
+    by : (b : Bool) → ltb i (length l) ≡ b → getD (set l i (NoEvent 0 0)) i (NoEvent 0 0) ≡ NoEvent 0 0
+    by true q = getD-set-same l i (NoEvent 0 0) (NoEvent 0 0) (ltb-true _ _ q)
+    by false q = List·getD-eq-default (set l i (NoEvent 0 0)) (NoEvent 0 0) (rw (length-set l i (NoEvent 0 0)) (ltb-false _ _ q))
 
 pub past-run : {A : Type 0} (e : Env) (m : Acts A) (s : St) → Past (s .room) (run e m s .1)
 past-run e m s =
@@ -108,7 +110,7 @@ past-run e m s =
       refusing = λ n r z h. record { place = h .place };
       looking = λ r z l h. record { place = h .place };
       pushing = λ v r t z l h. record { place = λ i q. below (s .room) (r .room) (r .p .len) i v (omega arith) (h .place i (omega arith)) };
-      moving = λ k n r t q z l h. record { place = λ i q. below (s .room) (r .room) (r .p .len) i (Event.token k n) (omega arith) (h .place i (omega arith)) };
+      moving = λ k n r t q z l h. record { place = λ i q. below (s .room) (r .room) (r .p .len) i (Token k n) (omega arith) (h .place i (omega arith)) };
       changing = λ i v r l t u z h. record { place = λ j q. below (s .room) (r .room) i j v (omega arith) (h .place j q) };
       popping = λ r m l t z h. record { place = λ i q. taken r i q h (eqb i (r .p .len - 1)) refl };
     })
@@ -116,11 +118,11 @@ past-run e m s =
     s
     (record { place = λ i q. inl refl })
   where
-    taken : (r : St) (i : ℕ) → r .p .len - 1 ≤ i → Past (s .room) r → (b : Bool) → eqb i (r .p .len - 1) ≡ b → AsCame (s .room) (set (r .room) (r .p .len - 1) (none 0 0)) i
+    taken : (r : St) (i : ℕ) → r .p .len - 1 ≤ i → Past (s .room) r → (b : Bool) → eqb i (r .p .len - 1) ≡ b → AsCame (s .room) (set (r .room) (r .p .len - 1) (NoEvent 0 0)) i
     taken r i q h true f = inr (rw (eqb-true i (r .p .len - 1) f) (zero-there (r .room) (r .p .len - 1)))
     taken r i q h false f =
         let n : i ≡ r .p .len - 1 → ⊥ = eqb-false i (r .p .len - 1) f in
-        below (s .room) (r .room) (r .p .len - 1) i (none 0 0) (omega arith) (h .place i (omega arith))
+        below (s .room) (r .room) (r .p .len - 1) i (NoEvent 0 0) (omega arith) (h .place i (omega arith))
 
 -- A refused run changes nothing more.
 pub refused-run : {A : Type 0} (e : Env) (m : Acts A) (s : St) → (s .p .refused ≡ 0 → ⊥) → run e m s .1 ≡ s
@@ -179,7 +181,7 @@ left-live p z = rw z
 
 left-refused : (n : ℕ) (p : Parser) → p .refused ≡ 0 → left (refusal n p) ≤ left p
 unfolding left
-left-refused n p z = by-pick (λ (x : ℕ). x ≤ left p) (eqb n 0) _ 0 (λ q. rw z (le-refl _)) (λ q. omega arith)
+left-refused n p z = by-test (λ (x : ℕ). x ≤ left p) (eqb n 0) _ 0 (λ q. rw z (le-refl _)) (λ q. omega arith)
 
 pub counted-spends : (p : Parser) → p .refused ≡ 0 → p .since < mostLooks → left (counted p) < left p
 counted-spends p z l = rw (left-live p z, left-live (counted p) z) (omega arith)

@@ -11,8 +11,9 @@ use Rattle.kinds.specs.Kinds.{EOF}
 use Rattle.runtime.specs.declared.input.Parts.{Parts}
 use Rattle.runtime.specs.declared.input.Parts.the-variants.{One, Two, Three}
 use Rattle.runtime.specs.Input.{Env, isJoint, seen}
-use Rattle.runtime.specs.Glue.{both, partsOf, rawCount, standsAt}
-use Rattle.runtime.specs.Event.{Event.token}
+use Rattle.runtime.specs.Glue.{partsOf, rawCount, standsAt}
+use Rattle.kinds.specs.Membership.{both}
+use Rattle.event.specs.declared.Event.the-variants.{Token}
 use Rattle.runtime.specs.State.{St, mostTokens, pushEvent, consume, doBump}
 use Rattle.runtime.specs.Acts.{kindAhead, sees}
 use Rattle.runtime.proofs.Runs.{few-parts}
@@ -43,7 +44,7 @@ stands-final e i (Three a b c) h =
 
 module _ (e : Env) (few : length (e .kinds) ≤ mostTokens) (s : St) (z : s .p .refused ≡ 0) where
   -- what `eat` consumes
-  pub eats-there : (k : ℕ) → (k ≡ EOF → ⊥) → sees e (s .p) k ≡ true → doBump e k (rawCount (partsOf k)) s ≡ consume (rawCount (partsOf k)) (pushEvent (token k (rawCount (partsOf k))) s)
+  pub eats-there : (k : ℕ) → (k ≡ EOF → ⊥) → sees e (s .p) k ≡ true → doBump e k (rawCount (partsOf k)) s ≡ consume (rawCount (partsOf k)) (pushEvent (Token k (rawCount (partsOf k))) s)
   unfolding doBump
   eats-there k n h = sym (on _ _ (le-leb (s .p .pos + rawCount (partsOf k)) (min (length (e .kinds)) mostTokens) (omega (arith, below, few-parts (partsOf k) .0))))
     where
@@ -54,6 +55,6 @@ module _ (e : Env) (few : length (e .kinds) ≤ mostTokens) (s : St) (z : s .p .
       below = seen-below e (s .p .pos + pred (rawCount (partsOf k))) (λ q. n (final-not-end k (sym (stands-final e (s .p .pos) (partsOf k) here) ∙ q)))
 
   -- and what `bump_any` does
-  pub takes-there : (kindAhead e (s .p) 0 ≡ EOF → ⊥) → doBump e (kindAhead e (s .p) 0) 1 s ≡ consume 1 (pushEvent (token (kindAhead e (s .p) 0) 1) s)
+  pub takes-there : (kindAhead e (s .p) 0 ≡ EOF → ⊥) → doBump e (kindAhead e (s .p) 0) 1 s ≡ consume 1 (pushEvent (Token (kindAhead e (s .p) 0) 1) s)
   unfolding doBump
   takes-there n = sym (on _ _ (le-leb (s .p .pos + 1) (min (length (e .kinds)) mostTokens) (omega (arith, seen-below e (s .p .pos + 0) (λ q. n (rw z q))))))

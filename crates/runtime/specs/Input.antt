@@ -1,11 +1,11 @@
 -- What is read: src/input.rs. Assumes nothing: these are definitions.
 use mathlib.Core.List.{List}
-use mathlib.Core.Bool.{Bool}
+use mathlib.Core.Bool.{Bool, cond}
 use Prim.Native.Nat.{ℕ}
 use lib.Dec.{eqb}
 use lib.ListN.{getD}
 use Rattle.kinds.specs.Kinds.{EOF}
-use Rattle.kinds.specs.Membership.{pick, bit}
+use Rattle.kinds.specs.Membership.{bit}
 
 -- `Input`: the tokens' kinds, and the words of their joint bits
 pub record Env : Type 0 where
@@ -25,4 +25,4 @@ isJoint joints n = bit joints n
 
 -- the kind at a position in a run with this refusal: once it is not 0, every look answers EOF
 unfoldable pub seen : List ℕ → ℕ → ℕ → ℕ
-seen kinds refused i = pick (eqb refused 0) (kind kinds i) EOF
+seen kinds refused i = cond (eqb refused 0) (kind kinds i) EOF

@@ -1,13 +1,14 @@
 // The parser's state and operations: src/parser.rs. Each operation hands the state back, and is proved equal to its acts.
-use crate::event;
 use crate::input;
+use event::EVENT_WORDS;
+use event::Event;
 use kinds::sets::Fixed;
 use kinds::syntax_kind_enum as k;
 ghost use mathlib.Core.Path.{_≡_};
-ghost use Prim.Native.Nat.{_+_, _*_, _≤_, _<_};
+ghost use Prim.Native.Nat.{_+_, _≤_, _<_};
 ghost use Rattle.kinds.specs.Sets.{kindsOf};
 ghost use Rattle.runtime.specs.Input.{env};
-ghost use Rattle.runtime.specs.Event.{decode, isStart, isBare};
+ghost use Rattle.event.specs.Event.{Sound, isStart, isBare};
 ghost use Rattle.runtime.specs.State as state;
 ghost use Rattle.runtime.specs.State.{view, Fit, Begins, Moves, eventAt};
 ghost use Rattle.runtime.specs.Acts as acts;
@@ -199,16 +200,17 @@ impl Parser {
     }
 
     // Writes one event, where the room holds it.
-    fn push_event(self, room: &mut [u32], first: u32, second: u32) -> Parser
+    fn push_event(self, room: &mut [u32], e: Event) -> Parser
         requires { ⌜ Fit self ⌝ }
-        ensures { λ r. ⌜ Moves (state.pushEvent (decode first second)) (view self (now (room .entry))) (view r (now (room .exit))) ⌝ }
+        requires { ⌜ Sound e ⌝ }
+        ensures { λ r. ⌜ Moves (state.pushEvent e) (view self (now (room .entry))) (view r (now (room .exit))) ⌝ }
     {
         if self.refused != 0 {
             return self;
         }
         let len = self.len;
         if len < event::holds(room.len()) {
-            event::store(room, len, first, second);
+            event::store(room, len, e);
             return Parser {
                 pos: self.pos,
                 since: self.since,
@@ -227,7 +229,7 @@ impl Parser {
         ensures { λ r. ⌜ view r (now (room .exit)) ≡ state.doBump (env (now (kinds .entry)) (now (joints .entry))) kind n (view self (now (room .entry))) ⌝ }
     {
         if input::enough(kinds, self.pos + n) {
-            let p = self.push_event(room, event::TOKEN + kind as u32, n as u32);
+            let p = self.push_event(room, Event::Token(kind, n as u8));
             if p.refused != 0 {
                 return p;
             }
@@ -293,7 +295,7 @@ impl Parser {
         requires { ⌜ Fit self ⌝ }
         ensures { λ r. ⌜ Steps (acts.error code arg) (view self (now (room .entry))) tt (view r (now (room .exit))) ⌝ }
     {
-        self.push_event(room, event::ERROR + code as u32, arg as u32)
+        self.push_event(room, Event::Error(code, arg))
     }
 
     pub fn expect(self, kinds: &[u16], joints: &[u64], room: &mut [u32], kind: u16) -> Told
@@ -314,7 +316,7 @@ impl Parser {
         ensures { λ r. ⌜ Steps acts.start (view self (now (room .entry))) (r .m) (view (r .p) (now (room .exit))) ⌝ }
     {
         let m = self.len as u32;
-        let p = self.push_event(room, event::TOMBSTONE, 0);
+        let p = self.push_event(room, Event::Start(k::TOMBSTONE, 0));
         Started { p, m }
     }
 
@@ -323,9 +325,8 @@ impl Parser {
         ensures { λ r. ⌜ r ≡ isStart (eventAt (view self (now (room .entry))) m) ⌝ }
     {
         if m < self.len {
-            if m < room.len() / 2 {
-                let at = 2 * m;
-                return room[at] / event::START == 1;
+            if m < room.len() / EVENT_WORDS {
+                return event::start_at(room, m);
             }
         }
         false
@@ -340,9 +341,7 @@ impl Parser {
             return self;
         }
         if self.is_start(room, m) {
-            let next = 2 * m + 1;
-            let distance = room[next];
-            event::store(room, m, event::START + kind as u32, distance);
+            event::set_kind(room, m, kind);
             return self;
         }
         self.refuse(8)
@@ -357,9 +356,7 @@ impl Parser {
             return self;
         }
         if self.is_start(room, m) {
-            let at = 2 * m;
-            let first = room[at];
-            event::store(room, m, first, distance);
+            event::set_distance(room, m, distance);
             return self;
         }
         self.refuse(8)
@@ -370,7 +367,7 @@ impl Parser {
         ensures { λ r. ⌜ Steps (acts.complete m kind) (view self (now (room .entry))) (r .cm) (view (r .p) (now (room .exit))) ⌝ }
     {
         let p = self.name(room, m as usize, kind);
-        let q = p.push_event(room, event::FINISH, 0);
+        let q = p.push_event(room, Event::Finish);
         let cm = Completed { pos: m, kind };
         Done { p: q, cm }
     }
@@ -389,7 +386,7 @@ impl Parser {
             return self;
         }
         if self.is_bare(room, at) {
-            event::store(room, at, 0, 0);
+            event::store(room, at, Event::NoEvent(0, 0));
             return Parser {
                 pos: self.pos,
                 since: self.since,
@@ -406,12 +403,8 @@ impl Parser {
         ensures { λ r. ⌜ r ≡ isBare (eventAt (view self (now (room .entry))) m) ⌝ }
     {
         if m < self.len {
-            if m < room.len() / 2 {
-                let at = 2 * m;
-                if room[at] == event::TOMBSTONE {
-                    let next = at + 1;
-                    return room[next] == 0;
-                }
+            if m < room.len() / EVENT_WORDS {
+                return event::bare_at(room, m);
             }
         }
         false
@@ -423,7 +416,7 @@ impl Parser {
         ensures { λ r. ⌜ Steps (acts.precede cm) (view self (now (room .entry))) (r .m) (view (r .p) (now (room .exit))) ⌝ }
     {
         let m = self.len as u32;
-        let p = self.push_event(room, event::TOMBSTONE, 0);
+        let p = self.push_event(room, Event::Start(k::TOMBSTONE, 0));
         let from = cm.pos;
         let distance = std::num::wrapping_sub_u32(m, from);
         let q = p.link(room, from as usize, distance);

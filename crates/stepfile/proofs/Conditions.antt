@@ -12,7 +12,7 @@ use borrow.Author.Tests.{ne-eqb, lt-ltb, le-ltb, eqb-true, ltb-true, ltb-false}
 use Rattle.records.specs.declared.Step.{Step}
 use Rattle.records.specs.declared.Step.the-variants.{Enter, Leave, Error}
 use Rattle.records.specs.Record.{recordOf, bytes, Sound as SoundStep, Sounds}
-use Rattle.records.proofs.Tests.{by-test}
+use Rattle.laws.proofs.Tests.{by-test}
 use Rattle.records.proofs.Writes.{bytes-append}
 use Rattle.stepfile.specs.declared.Found.{Found}
 use Rattle.stepfile.specs.declared.Found.the-variants as F

@@ -12,7 +12,7 @@ use borrow.Author.Tests.{eq-eqb, ne-eqb, eqb-true, eqb-false, ltb-true, ltb-fals
 use Rattle.records.specs.declared.Step.{Step}
 use Rattle.records.specs.declared.Step.the-variants.{Enter, Leave, Token, Error}
 use Rattle.records.specs.Record.{recordOf, bytes, Sounds}
-use Rattle.records.proofs.Tests.{by-test}
+use Rattle.laws.proofs.Tests.{by-test}
 use Rattle.stepfile.specs.declared.Found.the-variants as F
 use Rattle.stepfile.specs.declared.Nodes.{Nodes}
 use Rattle.stepfile.specs.declared.Nodes.the-variants.{Open, Fault}

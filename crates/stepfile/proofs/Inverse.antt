@@ -11,7 +11,7 @@ use borrow.Author.Tests.{ne-eqb, le-ltb, eqb-true, eqb-false, ltb-false}
 use Rattle.records.specs.declared.Step.{Step}
 use Rattle.records.specs.declared.Step.the-variants.{Enter, Leave, Token, Error}
 use Rattle.records.specs.Record.{recordOf, Sound as SoundStep}
-use Rattle.records.proofs.Tests.{by-test}
+use Rattle.laws.proofs.Tests.{by-test}
 use Rattle.stepfile.specs.declared.Found.{Found}
 use Rattle.stepfile.specs.declared.Found.the-variants.{Sound, End, Cut, Unsound}
 use Rattle.stepfile.specs.Front.{two, stepOf, front, taken, behind}

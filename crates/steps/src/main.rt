@@ -18,6 +18,7 @@ mod read;
 mod table;
 mod tree;
 
+use event::EVENT_WORDS;
 use lines::out::flush;
 use lines::out::put;
 use lines::out::put_number;
@@ -100,7 +101,7 @@ fn put_answer(out: &mut [u8], room: &mut [u32], a: parse::Answer, kinds: &[u16])
     if a.code != 0 {
         return put_refused(out, a.code, a.place as u64);
     }
-    let k = 2 * a.events as usize;
+    let k = EVENT_WORDS * a.events as usize;
     if k > room.len() {
         return 0;
     }

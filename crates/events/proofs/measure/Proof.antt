@@ -4,44 +4,40 @@
 use native.Mathlib.Omega.{arith}
 use Prim.Native.Nat.{suc, _+_, _*_, _-_, _/_, _≤_, _<_}
 use native.Mathlib.Numerals.{add-one}
-use mathlib.Core.Path.{_≡_, _∙_, sym, ap}
-use lib.ListN.{length, getD, drop, length-drop}
+use mathlib.Core.Path.{_≡_, _∙_, subst}
+use lib.ListN.{length, getD, drop}
 use borrow.Author.Needs.{needs}
-use Rattle.events.specs.declared.event.Event.the-variants.{NoEvent}
-use Rattle.events.specs.declared.Next.the-variants.{Open}
-use Rattle.events.specs.Event.{decode, eventsOf}
-use Rattle.events.specs.Check.{next, scan, checked}
-use Rattle.events.specs.Shape.{cost, need}
-use Rattle.events.proofs.Encoding.{length-events, event-index}
+use Rattle.event.specs.declared.Event.the-variants.{NoEvent}
+use Rattle.event.specs.Event.{eventsOf}
+use Rattle.event.proofs.Rooms.{length-events}
+use Rattle.records.specs.Record.{stepBytes}
+use Rattle.events.specs.Check.{scan, checked}
+use Rattle.events.specs.declared.Past.the-variants.{On}
+use Rattle.events.specs.Inside.{Passed}
+use Rattle.events.specs.Shape.{need}
 use Rattle.events.proofs.Writes.{cost-le}
 use Rattle.events.proofs.Scans.{checked-long, checked-odd, checked-list, scan-open, scan-fault, scan-done, scan-held, next-bound, need-turn, need-end}
-use Rattle.events.proofs.Table.{say-range, open-say, open-cost}
 use Rattle.events.proofs.measure.Statement.{statement}
 use Rattle.events.proofs.measure.Tie as tie
 
 abbrev Inv-loop : tie.InvT-loop
 Inv-loop words n i₀ held₀ bytes₀ i held bytes =
-    (i ≤ n) × (held ≤ i) × (bytes ≤ 8 * i)
+    (i ≤ n) × (held ≤ i) × (bytes ≤ stepBytes * i)
     × (scan (drop i (eventsOf words)) i held ≡ checked words)
     × (bytes + need (drop i (eventsOf words)) ≡ need (eventsOf words))
 
 abbrev μ-loop : tie.MeasureT-loop
 μ-loop words n i₀ held₀ bytes₀ i held bytes = n - i
 
--- the event that passes, and the bytes that its traits have
-opens : (c : tie.After-known-told Inv-loop μ-loop) →
+-- the event that passes: the nodes open past it, and its bytes
+on : (c : tie.After-known-told Inv-loop μ-loop) →
     let w = c .before .before .before .before .before .before .before .before .before .args .words .now in
     let l = c .before .before .before .before .before .loop in
-    next (decode (getD w (2 * l .i) 0) (getD w (2 * l .i + 1) 0)) (l .held) (drop (suc (l .i)) (eventsOf w)) ≡ Open (c .before .h .given .0 .0)
-opens c = rw (event-index (c .before .before .before .before .before .before .before .before .before .args .words .now) (c .before .before .before .before .before .loop .i) (omega arith)) (sym (c .before .before .before .next-open .ensures) ∙ c .before .h .given .1)
-
-bytes-of : (c : tie.After-traits Inv-loop μ-loop) →
-    c .traits .result / 128 ≡ cost (getD (eventsOf (c .before .before .before .before .before .before .before .before .before .before .before .args .words .now)) (c .before .before .before .before .before .before .before .loop .i) NoEvent)
-bytes-of c =
-    let w = c .before .before .before .before .before .before .before .before .before .before .before .args .words .now in
-    let i = c .before .before .before .before .before .before .before .loop .i in
-    open-cost _ _ _ _ _ (opens (c .before .before)) _ (omega (arith, length-drop (suc i) (eventsOf w), length-events w)) (c .traits .ensures)
-    ∙ ap cost (event-index w i (omega arith))
+    Passed (getD (eventsOf w) (l .i) (NoEvent 0 0)) (l .held) (drop (suc (l .i)) (eventsOf w)) (On (c .before .h .given .0 .0) (c .before .h .given .0 .1 .0))
+on c =
+    let w = c .before .before .before .before .before .before .before .before .before .args .words .now in
+    let l = c .before .before .before .before .before .loop in
+    subst (Passed (getD (eventsOf w) (l .i) (NoEvent 0 0)) (l .held) (drop (suc (l .i)) (eventsOf w))) (c .before .h .given .1) (c .before .before .before .pass .ensures)
 
 returns : tie.Need-returns Inv-loop μ-loop
 returns c = (checked-long _ (c .if1 .taken), λ z. omega arith)
@@ -52,8 +48,8 @@ returns-2 c = (checked-odd _ (c .before .if1 .left) (c .if2 .taken), λ z. omega
 loop-holds : tie.Need-loop-holds Inv-loop μ-loop
 loop-holds c = (omega arith, omega arith, omega arith, checked-list _ (c .before .if1 .left) (c .if2 .left), omega arith)
 
-next-open-requires : tie.Need-next-open-requires Inv-loop μ-loop
-next-open-requires c κs = (omega arith, (omega arith, omega arith))
+pass-requires : tie.Need-pass-requires Inv-loop μ-loop
+pass-requires c κs = (omega arith, (omega arith, omega arith))
 
 enum-known-h : tie.Need-enum-known-h Inv-loop μ-loop
 enum-known-h c = search needs
@@ -65,22 +61,10 @@ returns-3 : tie.Need-returns-3 Inv-loop μ-loop
 returns-3 c =
     let l = c .before .before .before .before .loop in
     let w = c .before .before .before .before .before .before .before .before .args .words .now in
-    (scan-fault (eventsOf w) (l .i) (l .held) (omega (arith, length-events w)) (sym (c .before .before .next-open .ensures) ∙ c .enum-told .given .1) ∙ l .inv .3, λ z. omega arith)
-
-mul-traits : tie.Need-mul-traits Inv-loop μ-loop
-mul-traits c = search needs
-
-mul-traits-2 : tie.Need-mul-traits-2 Inv-loop μ-loop
-mul-traits-2 c = search needs
-
-shared-slice-read-traits : tie.Need-shared-slice-read-traits Inv-loop μ-loop
-shared-slice-read-traits c = search needs
-
-traits-requires : tie.Need-traits-requires Inv-loop μ-loop
-traits-requires c κs = say-range _ _ (open-say _ _ _ _ _ (opens (c .before)))
+    (scan-fault (eventsOf w) (l .i) (l .held) (omega (arith, length-events w)) (subst (Passed _ _ _) (c .enum-told .given .1) (c .before .before .pass .ensures)) ∙ l .inv .3, λ z. omega arith)
 
 add-bytes : tie.Need-add-bytes Inv-loop μ-loop
-add-bytes c = omega (arith, bytes-of c, cost-le (getD (eventsOf (c .before .before .before .before .before .before .before .before .before .before .before .args .words .now)) (c .before .before .before .before .before .before .before .loop .i) NoEvent))
+add-bytes c = omega (arith, on c .1, cost-le (getD (eventsOf (c .before .before .before .before .before .before .before .before .before .args .words .now)) (c .before .before .before .before .before .loop .i) (NoEvent 0 0)))
 
 add-i : tie.Need-add-i Inv-loop μ-loop
 add-i c = omega arith
@@ -90,14 +74,14 @@ loop-less c = omega arith
 
 loop-again : tie.Need-loop-again Inv-loop μ-loop
 loop-again c =
-    let l = c .before .before .before .before .before .before .before .loop in
-    let w = c .before .before .before .before .before .before .before .before .before .before .before .args .words .now in
-    let e = sym (c .before .before .before .before .before .next-open .ensures) ∙ c .before .before .before .h .given .1 in
-    let b = bytes-of c in
+    let l = c .before .before .before .before .before .loop in
+    let w = c .before .before .before .before .before .before .before .before .before .args .words .now in
+    let e = on c .0 in
+    let b = on c .1 in
     let h : l .i < length (eventsOf w) = omega (arith, length-events w) in (
       omega arith,
       omega (arith, next-bound _ _ _ _ e),
-      omega (arith, b, cost-le (getD (eventsOf w) (l .i) NoEvent)),
+      omega (arith, b, cost-le (getD (eventsOf w) (l .i) (NoEvent 0 0))),
       rw add-one (scan-open (eventsOf w) (l .i) (l .held) _ h e ∙ l .inv .3),
       rw add-one (omega (arith, b, l .inv .4, need-turn (eventsOf w) (l .i) h)),
     )
@@ -126,15 +110,11 @@ measure-spec =
     returns
     returns-2
     loop-holds
-    next-open-requires
+    pass-requires
     enum-known-h
+    add-bytes
     enum-told
     returns-3
-    mul-traits
-    mul-traits-2
-    shared-slice-read-traits
-    traits-requires
-    add-bytes
     add-i
     loop-less
     loop-again

@@ -21,9 +21,6 @@ arm c k n e q =
 up : (x n : ℕ) → n ≤ x → (x ≡ n → ⊥) → suc n ≤ x
 up x n l h = omega arith
 
-last : (y : ℕ) → 7 ≤ y % 8 → y % 8 ≡ 7
-last y l = omega arith
-
 mul-tag : tie.Need-mul-tag
 mul-tag c = search needs
 
@@ -31,10 +28,10 @@ add-class : tie.Need-add-class
 add-class c = search needs
 
 returns : tie.Need-returns
-returns c = arm (c .before) 0 1087 (omega arith) refl
+returns c = arm (c .before) 0 0 (omega arith) refl
 
 returns-2 : tie.Need-returns-2
-returns-2 c = arm (c .before) 1 1087 (omega arith) refl
+returns-2 c = arm (c .before) 1 0 (omega arith) refl
 
 returns-3 : tie.Need-returns-3
 returns-3 c = arm (c .before) 2 63 (omega arith) refl
@@ -52,11 +49,14 @@ returns-7 : tie.Need-returns-7
 returns-7 c = arm (c .before) 6 942 (omega arith) refl
 
 returns-8 : tie.Need-returns-8
-returns-8 c =
+returns-8 c = arm (c .before) 7 942 (omega arith) refl
+
+returns-9 : tie.Need-returns-9
+returns-9 c =
     let r = c .match .rest in
     let x = c .before .before .if1 .class % 8 in
-    let l : 7 ≤ x = up x 6 (up x 5 (up x 4 (up x 3 (up x 2 (up x 1 (up x 0 (omega arith) (r .0 .0 .0 .0 .0 .0 .1)) (r .0 .0 .0 .0 .0 .1)) (r .0 .0 .0 .0 .1)) (r .0 .0 .0 .1)) (r .0 .0 .1)) (r .0 .1)) (r .1) in
-    arm (c .before) 7 942 (last _ l) refl
+    let l : 8 ≤ x = up x 7 (up x 6 (up x 5 (up x 4 (up x 3 (up x 2 (up x 1 (up x 0 (omega arith) (r .0 .0 .0 .0 .0 .0 .0 .1)) (r .0 .0 .0 .0 .0 .0 .1)) (r .0 .0 .0 .0 .0 .1)) (r .0 .0 .0 .0 .1)) (r .0 .0 .0 .1)) (r .0 .0 .1)) (r .0 .1)) (r .1) in
+    absurd (omega arith)
 
 pub traits-spec : {M : Type 1} → statement M
 traits-spec =
@@ -71,4 +71,5 @@ traits-spec =
     returns-5
     returns-6
     returns-7
-    returns-8)
+    returns-8
+    returns-9)

@@ -2,7 +2,7 @@
 -- `args`.
 use borrow.Author.Needs.{needs}
 use Rattle.runtime.proofs.Laws.{then, step, go, ends, Ran, ran-none, ran-more, ran-done, spent-does, falls, left-goes}
-use Rattle.grammar.proofs.Laws.{assoc, pick-bind, done-bind}
+use Rattle.grammar.proofs.Laws.{assoc, cond-bind, done-bind}
 use native.Mathlib.Nat.{lt-of-le-of-lt}
 use native.Mathlib.Omega.{arith}
 use lib.ListN.{length}
@@ -142,7 +142,7 @@ module _ (t : ℕ) where
       let start2 = bump .before .before .before .before .before in
       let start = start2 .before .before .before .before .before in
       let must = start .before .before .before .before in
-      simp (assoc, pick-bind, done-bind)
+      simp (assoc, cond-bind, done-bind)
       (then _ _ _ _ (must .must .ensures)
       (step _ _ _ _ (start .start .ensures)
       (step _ _ _ _ (start2 .start2 .ensures)
@@ -215,7 +215,7 @@ module _ (t : ℕ) where
       let start2 = bump .before .before .before .before .before in
       let start = start2 .before .before .before .before .before in
       let must = start .before .before .before .before in
-      simp (assoc, pick-bind, done-bind)
+      simp (assoc, cond-bind, done-bind)
       (then _ _ _ _ (must .must .ensures)
       (step _ _ _ _ (start .start .ensures)
       (step _ _ _ _ (start2 .start2 .ensures)
@@ -250,7 +250,7 @@ module _ (t : ℕ) where
       let start2 = bump .before .before .before .before .before in
       let start = start2 .before .before .before .before .before in
       let must = start .before .before .before .before in
-      simp (assoc, pick-bind, done-bind)
+      simp (assoc, cond-bind, done-bind)
       (then _ _ _ _ (must .must .ensures)
       (step _ _ _ _ (start .start .ensures)
       (step _ _ _ _ (start2 .start2 .ensures)

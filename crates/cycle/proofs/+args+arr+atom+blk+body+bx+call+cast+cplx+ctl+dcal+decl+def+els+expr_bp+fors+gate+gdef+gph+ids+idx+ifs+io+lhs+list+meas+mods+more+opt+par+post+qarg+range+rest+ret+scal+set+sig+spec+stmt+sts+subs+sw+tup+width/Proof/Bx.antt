@@ -2,7 +2,7 @@
 -- `bx`.
 use borrow.Author.Needs.{needs}
 use Rattle.runtime.proofs.Laws.{then, step, peek, any}
-use Rattle.grammar.proofs.Laws.{assoc, pick-bind, done-bind}
+use Rattle.grammar.proofs.Laws.{assoc, cond-bind, done-bind}
 use native.Mathlib.Omega.{arith}
 use lib.ListN.{length}
 use mathlib.Core.Path.{_≡_, _∙_}
@@ -92,7 +92,7 @@ module _ (t : ℕ) where
       let bump = at-ts .before .before .before in
       let start = bump .before .before .before .before .before in
       let must = start .before .before .before .before in
-      simp (assoc, pick-bind, done-bind)
+      simp (assoc, cond-bind, done-bind)
       (then _ _ _ _ (must .must .ensures)
       (step _ _ _ _ (start .start .ensures)
       (then _ _ _ _ (bump .bump .ensures)
@@ -119,7 +119,7 @@ module _ (t : ℕ) where
       let bump = at-ts .before .before .before in
       let start = bump .before .before .before .before .before in
       let must = start .before .before .before .before in
-      simp (assoc, pick-bind, done-bind)
+      simp (assoc, cond-bind, done-bind)
       (then _ _ _ _ (must .must .ensures)
       (step _ _ _ _ (start .start .ensures)
       (then _ _ _ _ (bump .bump .ensures)

@@ -2,7 +2,7 @@
 -- `cplx`.
 use borrow.Author.Needs.{needs}
 use Rattle.runtime.proofs.Laws.{then, step, see, any}
-use Rattle.grammar.proofs.Laws.{assoc, pick-bind, done-bind}
+use Rattle.grammar.proofs.Laws.{assoc, cond-bind, done-bind}
 use native.Mathlib.Omega.{arith}
 use lib.ListN.{length}
 use mathlib.Core.Path.{_≡_, _∙_}
@@ -138,7 +138,7 @@ module _ (t : ℕ) where
       let must = start .before .before .before .before in
       let if1 = must .before .before in
       complexTypeSpec-deeper _ _ _ _ (if1 .if1 .left)
-      (simp (assoc, pick-bind, done-bind)
+      (simp (assoc, cond-bind, done-bind)
       (then _ _ _ _ (must .must .ensures)
       (step _ _ _ _ (start .start .ensures)
       (then _ _ _ _ (bump-any .bump-any .ensures)
@@ -169,7 +169,7 @@ module _ (t : ℕ) where
       let must = start .before .before .before .before in
       let if1 = must .before .before in
       complexTypeSpec-deeper _ _ _ _ (if1 .if1 .left)
-      (simp (assoc, pick-bind, done-bind)
+      (simp (assoc, cond-bind, done-bind)
       (then _ _ _ _ (must .must .ensures)
       (step _ _ _ _ (start .start .ensures)
       (then _ _ _ _ (bump-any .bump-any .ensures)

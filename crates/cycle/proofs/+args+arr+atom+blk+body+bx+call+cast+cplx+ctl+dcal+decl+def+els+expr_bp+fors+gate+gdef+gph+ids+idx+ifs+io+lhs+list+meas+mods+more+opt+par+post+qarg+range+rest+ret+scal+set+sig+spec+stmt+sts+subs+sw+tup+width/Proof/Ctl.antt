@@ -2,7 +2,7 @@
 -- `ctl`.
 use borrow.Author.Needs.{needs}
 use Rattle.runtime.proofs.Laws.{then, step, see}
-use Rattle.grammar.proofs.Laws.{assoc, pick-bind, done-bind, past, passed}
+use Rattle.grammar.proofs.Laws.{assoc, cond-bind, done-bind, past, passed}
 use native.Mathlib.Omega.{arith}
 use lib.ListN.{length}
 use mathlib.Core.Path.{_≡_, _∙_}
@@ -108,7 +108,7 @@ module _ (t : ℕ) where
       let at = if1 .before in
       let bump = at .before .before .before in
       let start = bump .before .before .before .before .before in
-      simp (assoc, pick-bind, done-bind)
+      simp (assoc, cond-bind, done-bind)
       (step _ _ _ _ (start .start .ensures)
       (then _ _ _ _ (bump .bump .ensures)
       (see _ _ _ _ (at .at .ensures)
@@ -142,7 +142,7 @@ module _ (t : ℕ) where
       let at = if1 .before in
       let bump = at .before .before .before in
       let start = bump .before .before .before .before .before in
-      simp (assoc, pick-bind, done-bind)
+      simp (assoc, cond-bind, done-bind)
       (step _ _ _ _ (start .start .ensures)
       (then _ _ _ _ (bump .bump .ensures)
       (see _ _ _ _ (at .at .ensures)

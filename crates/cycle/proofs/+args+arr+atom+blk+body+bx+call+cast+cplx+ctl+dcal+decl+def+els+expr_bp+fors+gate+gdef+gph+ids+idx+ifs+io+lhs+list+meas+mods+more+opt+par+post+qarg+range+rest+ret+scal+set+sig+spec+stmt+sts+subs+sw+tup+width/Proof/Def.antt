@@ -1,7 +1,7 @@
 -- Written by tools/proofs from the code, the definitions and hints.py: docs/PRODUCTIONS.md says how to change it.
 -- `def`.
 use Rattle.runtime.proofs.Laws.{then, step, see}
-use Rattle.grammar.proofs.Laws.{assoc, pick-bind, done-bind}
+use Rattle.grammar.proofs.Laws.{assoc, cond-bind, done-bind}
 use native.Mathlib.Omega.{arith}
 use lib.ListN.{length}
 use mathlib.Core.Path.{_≡_, _∙_}
@@ -101,7 +101,7 @@ module _ (t : ℕ) where
       let name-r = at .before .before .before in
       let bump-any = name-r .before .before .before .before in
       let must = bump-any .before .before .before .before in
-      simp (assoc, pick-bind, done-bind)
+      simp (assoc, cond-bind, done-bind)
       (then _ _ _ _ (must .must .ensures)
       (then _ _ _ _ (bump-any .bump-any .ensures)
       (then _ _ _ _ (name-r .name-r .ensures)
@@ -136,7 +136,7 @@ module _ (t : ℕ) where
       let name-r = at .before .before .before in
       let bump-any = name-r .before .before .before .before in
       let must = bump-any .before .before .before .before in
-      simp (assoc, pick-bind, done-bind)
+      simp (assoc, cond-bind, done-bind)
       (then _ _ _ _ (must .must .ensures)
       (then _ _ _ _ (bump-any .bump-any .ensures)
       (then _ _ _ _ (name-r .name-r .ensures)

@@ -2,7 +2,7 @@
 -- `fors`.
 use borrow.Author.Needs.{needs}
 use Rattle.runtime.proofs.Laws.{then, step, see}
-use Rattle.grammar.proofs.Laws.{assoc, pick-bind, done-bind, past}
+use Rattle.grammar.proofs.Laws.{assoc, cond-bind, done-bind, past}
 use native.Mathlib.Omega.{arith}
 use lib.ListN.{length}
 use mathlib.Core.Path.{_≡_, _∙_}
@@ -148,7 +148,7 @@ module _ (t : ℕ) where
       let spec = name-r .before .before .before .before in
       let bump = spec .before .before .before .before in
       let must = bump .before .before .before .before in
-      simp (assoc, pick-bind, done-bind)
+      simp (assoc, cond-bind, done-bind)
       (then _ _ _ _ (must .must .ensures)
       (then _ _ _ _ (bump .bump .ensures)
       (then _ _ _ _ (spec .spec .ensures)
@@ -198,7 +198,7 @@ module _ (t : ℕ) where
       let spec = name-r .before .before .before .before in
       let bump = spec .before .before .before .before in
       let must = bump .before .before .before .before in
-      simp (assoc, pick-bind, done-bind)
+      simp (assoc, cond-bind, done-bind)
       (then _ _ _ _ (must .must .ensures)
       (then _ _ _ _ (bump .bump .ensures)
       (then _ _ _ _ (spec .spec .ensures)
@@ -250,7 +250,7 @@ module _ (t : ℕ) where
       let spec = name-r .before .before .before .before in
       let bump = spec .before .before .before .before in
       let must = bump .before .before .before .before in
-      simp (assoc, pick-bind, done-bind)
+      simp (assoc, cond-bind, done-bind)
       (then _ _ _ _ (must .must .ensures)
       (then _ _ _ _ (bump .bump .ensures)
       (then _ _ _ _ (spec .spec .ensures)

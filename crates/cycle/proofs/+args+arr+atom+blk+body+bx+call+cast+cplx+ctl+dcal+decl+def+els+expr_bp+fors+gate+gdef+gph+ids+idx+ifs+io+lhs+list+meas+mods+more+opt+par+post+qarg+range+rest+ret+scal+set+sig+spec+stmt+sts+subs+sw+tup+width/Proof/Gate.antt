@@ -1,7 +1,7 @@
 -- Written by tools/proofs from the code, the definitions and hints.py: docs/PRODUCTIONS.md says how to change it.
 -- `gate`.
 use Rattle.runtime.proofs.Laws.{then, step, see, any}
-use Rattle.grammar.proofs.Laws.{assoc, pick-bind, done-bind}
+use Rattle.grammar.proofs.Laws.{assoc, cond-bind, done-bind}
 use native.Mathlib.Omega.{arith}
 use lib.ListN.{length}
 use mathlib.Core.Path.{_≡_, _∙_}
@@ -98,7 +98,7 @@ module _ (t : ℕ) where
       let at = if1 .before in
       let identifier = at .before .before .before .before in
       let start = identifier .before .before .before .before .before in
-      simp (assoc, pick-bind, done-bind)
+      simp (assoc, cond-bind, done-bind)
       (step _ _ _ _ (start .start .ensures)
       (then _ _ _ _ (identifier .identifier .ensures)
       (see _ _ _ _ (at .at .ensures)
@@ -132,7 +132,7 @@ module _ (t : ℕ) where
       let at = if1 .before in
       let identifier = at .before .before .before .before in
       let start = identifier .before .before .before .before .before in
-      simp (assoc, pick-bind, done-bind)
+      simp (assoc, cond-bind, done-bind)
       (step _ _ _ _ (start .start .ensures)
       (then _ _ _ _ (identifier .identifier .ensures)
       (see _ _ _ _ (at .at .ensures)

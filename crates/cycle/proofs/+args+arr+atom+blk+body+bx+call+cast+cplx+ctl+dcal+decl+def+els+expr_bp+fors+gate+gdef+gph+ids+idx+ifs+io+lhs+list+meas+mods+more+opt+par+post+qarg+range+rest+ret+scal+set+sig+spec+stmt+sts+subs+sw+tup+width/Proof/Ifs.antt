@@ -2,7 +2,7 @@
 -- `ifs`.
 use borrow.Author.Needs.{needs}
 use Rattle.runtime.proofs.Laws.{then, step, see, any}
-use Rattle.grammar.proofs.Laws.{assoc, pick-bind, done-bind, past}
+use Rattle.grammar.proofs.Laws.{assoc, cond-bind, done-bind, past}
 use native.Mathlib.Omega.{arith}
 use lib.ListN.{length}
 use mathlib.Core.Path.{_≡_, _∙_}
@@ -179,7 +179,7 @@ module _ (t : ℕ) where
       let must = bump .before .before .before .before in
       let if1 = must .before .before in
       ifStmt-deeper _ _ _ _ _ (if1 .if1 .left)
-      (simp (assoc, pick-bind, done-bind)
+      (simp (assoc, cond-bind, done-bind)
       (then _ _ _ _ (must .must .ensures)
       (then _ _ _ _ (bump .bump .ensures)
       (past _ _ _ _ (expected .expected .ensures)
@@ -232,7 +232,7 @@ module _ (t : ℕ) where
       let must = bump .before .before .before .before in
       let if1 = must .before .before in
       ifStmt-deeper _ _ _ _ _ (if1 .if1 .left)
-      (simp (assoc, pick-bind, done-bind)
+      (simp (assoc, cond-bind, done-bind)
       (then _ _ _ _ (must .must .ensures)
       (then _ _ _ _ (bump .bump .ensures)
       (past _ _ _ _ (expected .expected .ensures)
@@ -270,7 +270,7 @@ module _ (t : ℕ) where
       let must = bump .before .before .before .before in
       let if1 = must .before .before in
       ifStmt-deeper _ _ _ _ _ (if1 .if1 .left)
-      (simp (assoc, pick-bind, done-bind)
+      (simp (assoc, cond-bind, done-bind)
       (then _ _ _ _ (must .must .ensures)
       (then _ _ _ _ (bump .bump .ensures)
       (past _ _ _ _ (expected .expected .ensures)

@@ -2,7 +2,7 @@
 -- `meas`.
 use borrow.Author.Needs.{needs}
 use Rattle.runtime.proofs.Laws.{then, step, peek, any}
-use Rattle.grammar.proofs.Laws.{assoc, pick-bind, done-bind}
+use Rattle.grammar.proofs.Laws.{assoc, cond-bind, done-bind}
 use native.Mathlib.Omega.{arith}
 use lib.ListN.{length}
 use mathlib.Core.Path.{_≡_, sym, _∙_}
@@ -93,7 +93,7 @@ module _ (t : ℕ) where
       let current = has .before .before in
       let bump = current .before .before .before in
       let start = bump .before .before .before .before .before in
-      simp (assoc, pick-bind, done-bind)
+      simp (assoc, cond-bind, done-bind)
       (step _ _ _ _ (start .start .ensures)
       (then _ _ _ _ (bump .bump .ensures)
       (peek _ _ _ _ _ (current .current .ensures)
@@ -125,7 +125,7 @@ module _ (t : ℕ) where
       let current = has .before .before in
       let bump = current .before .before .before in
       let start = bump .before .before .before .before .before in
-      simp (assoc, pick-bind, done-bind)
+      simp (assoc, cond-bind, done-bind)
       (step _ _ _ _ (start .start .ensures)
       (then _ _ _ _ (bump .bump .ensures)
       (peek _ _ _ _ _ (current .current .ensures)

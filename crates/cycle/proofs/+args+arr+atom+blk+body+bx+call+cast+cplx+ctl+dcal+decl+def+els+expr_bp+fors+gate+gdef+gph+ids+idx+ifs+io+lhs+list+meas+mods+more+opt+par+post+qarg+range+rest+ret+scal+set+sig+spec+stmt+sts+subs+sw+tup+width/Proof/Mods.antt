@@ -1,7 +1,7 @@
 -- Written by tools/proofs from the code, the definitions and hints.py: docs/PRODUCTIONS.md says how to change it.
 -- `mods`.
 use Rattle.runtime.proofs.Laws.{then, step, peek, see, any, ends, Ran, ran-none, ran-more, ran-done, spent-does, falls-peeks, left-told, spends-nth}
-use Rattle.grammar.proofs.Laws.{assoc, pick-bind, done-bind}
+use Rattle.grammar.proofs.Laws.{assoc, cond-bind, done-bind}
 use borrow.Author.Tests.{ne-eqb}
 use native.Mathlib.Nat.{lt-of-le-of-lt}
 use native.Mathlib.Omega.{arith}
@@ -234,7 +234,7 @@ module _ (t : ℕ) where
       let current = match .before .before in
       let loop = current .before in
       let start = loop .before .before .before .before in
-      simp (assoc, pick-bind, done-bind)
+      simp (assoc, cond-bind, done-bind)
       (step _ _ _ _ (start .start .ensures)
       (then _ _ _ _ (ran-done _ _ _ _ _ _ _ (view (current .current .result .p) (loop .loop .room)) (loop .loop .inv .1)
       (peek _ _ _ _ _ (current .current .ensures)
@@ -275,7 +275,7 @@ module _ (t : ℕ) where
       let current = match .before .before in
       let loop = current .before in
       let start = loop .before .before .before .before in
-      simp (assoc, pick-bind, done-bind)
+      simp (assoc, cond-bind, done-bind)
       (step _ _ _ _ (start .start .ensures)
       (then _ _ _ _ (ran-done _ _ _ _ _ _ _ (view (current .current .result .p) (loop .loop .room)) (loop .loop .inv .1)
       (peek _ _ _ _ _ (current .current .ensures)

@@ -2,7 +2,7 @@
 -- `more`.
 use borrow.Author.Needs.{needs}
 use Rattle.runtime.proofs.Laws.{then, step, peek, see, ends}
-use Rattle.grammar.proofs.Laws.{assoc, pick-bind, done-bind, past, passed}
+use Rattle.grammar.proofs.Laws.{assoc, cond-bind, done-bind, past, passed}
 use borrow.Author.Tests.{ne-eqb}
 use native.Mathlib.Omega.{arith}
 use mathlib.Core.Path.{sym, _∙_}
@@ -133,7 +133,7 @@ module _ (t : ℕ) where
       let bump = current .before .before .before in
       let match = bump .before .before in
       rw (match .match .keys1)
-      (simp (assoc, pick-bind, done-bind)
+      (simp (assoc, cond-bind, done-bind)
       (then _ _ _ _ (bump .bump .ensures)
       (peek _ _ _ _ _ (current .current .ensures)
       (rw (sym (has .has .ensures) ∙ if1 .if1 .taken)
@@ -167,7 +167,7 @@ module _ (t : ℕ) where
       let bump = current .before .before .before in
       let match = bump .before .before in
       rw (match .match .keys1)
-      (simp (assoc, pick-bind, done-bind)
+      (simp (assoc, cond-bind, done-bind)
       (then _ _ _ _ (bump .bump .ensures)
       (peek _ _ _ _ _ (current .current .ensures)
       (rw (sym (has .has .ensures) ∙ if1 .if1 .left)
@@ -204,7 +204,7 @@ module _ (t : ℕ) where
       let bump2 = at .before .before .before in
       let match = bump2 .before .before in
       rw (match .match .keys2)
-      (simp (assoc, pick-bind, done-bind)
+      (simp (assoc, cond-bind, done-bind)
       (then _ _ _ _ (bump2 .bump2 .ensures)
       (see _ _ _ _ (at .at .ensures)
       (rw (if2 .if2 .taken)
@@ -244,7 +244,7 @@ module _ (t : ℕ) where
       let bump2 = at .before .before .before in
       let match = bump2 .before .before in
       rw (match .match .keys2)
-      (simp (assoc, pick-bind, done-bind)
+      (simp (assoc, cond-bind, done-bind)
       (then _ _ _ _ (bump2 .bump2 .ensures)
       (see _ _ _ _ (at .at .ensures)
       (rw (if2 .if2 .left)
@@ -352,7 +352,7 @@ module _ (t : ℕ) where
       let must = bump-any .before .before .before .before in
       let match = must .before .before in
       rw (match .match .keys6)
-      (simp (assoc, pick-bind, done-bind)
+      (simp (assoc, cond-bind, done-bind)
       (then _ _ _ _ (must .must .ensures)
       (then _ _ _ _ (bump-any .bump-any .ensures)
       (then _ _ _ _ (name-r .name-r .ensures)
@@ -403,7 +403,7 @@ module _ (t : ℕ) where
       let bump3 = width .before .before .before .before in
       let match = bump3 .before .before in
       rw (match .match .keys7)
-      (simp (assoc, pick-bind, done-bind)
+      (simp (assoc, cond-bind, done-bind)
       (then _ _ _ _ (bump3 .bump3 .ensures)
       (then _ _ _ _ (width .width .ensures)
       (then _ _ _ _ (list2 .list2 .ensures)

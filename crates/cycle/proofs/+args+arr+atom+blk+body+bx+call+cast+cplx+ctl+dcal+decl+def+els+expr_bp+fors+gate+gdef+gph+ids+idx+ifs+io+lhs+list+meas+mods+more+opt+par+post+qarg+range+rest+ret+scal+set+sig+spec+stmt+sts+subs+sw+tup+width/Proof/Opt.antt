@@ -2,7 +2,7 @@
 -- `opt`.
 use borrow.Author.Needs.{needs}
 use Rattle.runtime.proofs.Laws.{then, step, peek, see, ends}
-use Rattle.grammar.proofs.Laws.{assoc, pick-bind, done-bind, past, passed}
+use Rattle.grammar.proofs.Laws.{assoc, cond-bind, done-bind, past, passed}
 use borrow.Author.Tests.{ne-eqb}
 use native.Mathlib.Omega.{arith}
 use lib.ListN.{length}
@@ -230,7 +230,7 @@ module _ (t : ℕ) where
       (rw (sym (declares .declares .ensures) ∙ if1 .if1 .left)
       (peek _ _ _ _ _ (current2 .current2 .ensures)
       (rw (match .match .keys1)
-      (simp (assoc, pick-bind, done-bind)
+      (simp (assoc, cond-bind, done-bind)
       (then _ _ _ _ (must .must .ensures)
       (then _ _ _ _ (must2 .must2 .ensures)
       (step _ _ _ _ (start .start .ensures)
@@ -278,7 +278,7 @@ module _ (t : ℕ) where
       (rw (sym (declares .declares .ensures) ∙ if1 .if1 .left)
       (peek _ _ _ _ _ (current2 .current2 .ensures)
       (rw (match .match .keys1)
-      (simp (assoc, pick-bind, done-bind)
+      (simp (assoc, cond-bind, done-bind)
       (then _ _ _ _ (must .must .ensures)
       (then _ _ _ _ (must2 .must2 .ensures)
       (step _ _ _ _ (start .start .ensures)
@@ -506,7 +506,7 @@ module _ (t : ℕ) where
       (rw (sym (declares .declares .ensures) ∙ if1 .if1 .left)
       (peek _ _ _ _ _ (current2 .current2 .ensures)
       (rw (match .match .keys8)
-      (simp (assoc, pick-bind, done-bind)
+      (simp (assoc, cond-bind, done-bind)
       (then _ _ _ _ (must3 .must3 .ensures)
       (then _ _ _ _ (bump .bump .ensures)
       (past _ _ _ _ (expected .expected .ensures)
@@ -633,7 +633,7 @@ module _ (t : ℕ) where
       (rw (sym (declares .declares .ensures) ∙ if1 .if1 .left)
       (peek _ _ _ _ _ (current2 .current2 .ensures)
       (rw (match .match .keys12)
-      (simp (assoc, pick-bind, done-bind)
+      (simp (assoc, cond-bind, done-bind)
       (then _ _ _ _ (bump2 .bump2 .ensures)
       (then _ _ _ _ (body2 .body2 .ensures)
       (passed _ _ _ _ (completed4 .completed4 .ensures)

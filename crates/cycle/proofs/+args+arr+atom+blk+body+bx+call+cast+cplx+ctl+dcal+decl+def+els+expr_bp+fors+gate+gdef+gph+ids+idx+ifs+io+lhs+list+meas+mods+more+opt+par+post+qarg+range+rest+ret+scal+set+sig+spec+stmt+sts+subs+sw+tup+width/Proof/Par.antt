@@ -2,7 +2,7 @@
 -- `par`.
 use borrow.Author.Needs.{needs}
 use Rattle.runtime.proofs.Laws.{then, step, see, ends}
-use Rattle.grammar.proofs.Laws.{assoc, pick-bind, done-bind, passed}
+use Rattle.grammar.proofs.Laws.{assoc, cond-bind, done-bind, passed}
 use native.Mathlib.Omega.{arith}
 use lib.ListN.{length}
 use mathlib.Core.Path.{_≡_, _∙_}
@@ -157,7 +157,7 @@ module _ (t : ℕ) where
       let abandon = start .before .before .before .before in
       let enum-told = abandon .before .before in
       rw (enum-told .enum-told .given .1)
-      (simp (assoc, pick-bind, done-bind)
+      (simp (assoc, cond-bind, done-bind)
       (step _ _ _ _ (abandon .abandon .ensures)
       (step _ _ _ _ (start .start .ensures)
       (then _ _ _ _ (expr-bp .expr-bp .ensures)
@@ -196,7 +196,7 @@ module _ (t : ℕ) where
       let abandon = start .before .before .before .before in
       let enum-told = abandon .before .before in
       rw (enum-told .enum-told .given .1)
-      (simp (assoc, pick-bind, done-bind)
+      (simp (assoc, cond-bind, done-bind)
       (step _ _ _ _ (abandon .abandon .ensures)
       (step _ _ _ _ (start .start .ensures)
       (then _ _ _ _ (expr-bp .expr-bp .ensures)
@@ -229,7 +229,7 @@ module _ (t : ℕ) where
       let abandon = start .before .before .before .before in
       let enum-told = abandon .before .before in
       rw (enum-told .enum-told .given .1)
-      (simp (assoc, pick-bind, done-bind)
+      (simp (assoc, cond-bind, done-bind)
       (step _ _ _ _ (abandon .abandon .ensures)
       (step _ _ _ _ (start .start .ensures)
       (then _ _ _ _ (expr-bp .expr-bp .ensures)

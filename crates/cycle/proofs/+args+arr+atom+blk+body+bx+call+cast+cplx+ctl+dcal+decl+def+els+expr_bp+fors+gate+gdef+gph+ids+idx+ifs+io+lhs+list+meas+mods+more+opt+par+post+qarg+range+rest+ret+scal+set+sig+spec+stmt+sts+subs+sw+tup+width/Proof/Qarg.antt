@@ -1,7 +1,7 @@
 -- Written by tools/proofs from the code, the definitions and hints.py: docs/PRODUCTIONS.md says how to change it.
 -- `qarg`.
 use Rattle.runtime.proofs.Laws.{then, step, see, ends}
-use Rattle.grammar.proofs.Laws.{assoc, pick-bind, done-bind, passed}
+use Rattle.grammar.proofs.Laws.{assoc, cond-bind, done-bind, passed}
 use native.Mathlib.Omega.{arith}
 use lib.ListN.{length}
 use mathlib.Core.Path.{_≡_, _∙_}
@@ -75,7 +75,7 @@ module _ (t : ℕ) where
       let bump = completed .before .before .before .before in
       let if1 = bump .before .before in
       let at = if1 .before in
-      simp (assoc, pick-bind, done-bind)
+      simp (assoc, cond-bind, done-bind)
       (see _ _ _ _ (at .at .ensures)
       (rw (if1 .if1 .taken)
       (then _ _ _ _ (bump .bump .ensures)
@@ -119,7 +119,7 @@ module _ (t : ℕ) where
       let at2 = if2 .before in
       let if1 = at2 .before in
       let at = if1 .before in
-      simp (assoc, pick-bind, done-bind)
+      simp (assoc, cond-bind, done-bind)
       (see _ _ _ _ (at .at .ensures)
       (rw (if1 .if1 .left)
       (see _ _ _ _ (at2 .at2 .ensures)
@@ -144,7 +144,7 @@ module _ (t : ℕ) where
       let at2 = if2 .before in
       let if1 = at2 .before in
       let at = if1 .before in
-      simp (assoc, pick-bind, done-bind)
+      simp (assoc, cond-bind, done-bind)
       (see _ _ _ _ (at .at .ensures)
       (rw (if1 .if1 .left)
       (see _ _ _ _ (at2 .at2 .ensures)
@@ -176,7 +176,7 @@ module _ (t : ℕ) where
       let at2 = if2 .before in
       let if1 = at2 .before in
       let at = if1 .before in
-      simp (assoc, pick-bind, done-bind)
+      simp (assoc, cond-bind, done-bind)
       (see _ _ _ _ (at .at .ensures)
       (rw (if1 .if1 .left)
       (see _ _ _ _ (at2 .at2 .ensures)

@@ -2,7 +2,7 @@
 -- `range`.
 use borrow.Author.Needs.{needs}
 use Rattle.runtime.proofs.Laws.{then, step, see}
-use Rattle.grammar.proofs.Laws.{assoc, pick-bind, done-bind}
+use Rattle.grammar.proofs.Laws.{assoc, cond-bind, done-bind}
 use native.Mathlib.Omega.{arith}
 use lib.ListN.{length}
 use mathlib.Core.Path.{_≡_, _∙_}
@@ -147,7 +147,7 @@ module _ (t : ℕ) where
       let bump = expr-bp .before .before .before .before in
       let must = bump .before .before .before .before in
       let start = must .before .before .before .before .before in
-      simp (assoc, pick-bind, done-bind)
+      simp (assoc, cond-bind, done-bind)
       (step _ _ _ _ (start .start .ensures)
       (then _ _ _ _ (must .must .ensures)
       (then _ _ _ _ (bump .bump .ensures)
@@ -185,7 +185,7 @@ module _ (t : ℕ) where
       let bump = expr-bp .before .before .before .before in
       let must = bump .before .before .before .before in
       let start = must .before .before .before .before .before in
-      simp (assoc, pick-bind, done-bind)
+      simp (assoc, cond-bind, done-bind)
       (step _ _ _ _ (start .start .ensures)
       (then _ _ _ _ (must .must .ensures)
       (then _ _ _ _ (bump .bump .ensures)
@@ -222,7 +222,7 @@ module _ (t : ℕ) where
       let bump = expr-bp .before .before .before .before in
       let must = bump .before .before .before .before in
       let start = must .before .before .before .before .before in
-      simp (assoc, pick-bind, done-bind)
+      simp (assoc, cond-bind, done-bind)
       (step _ _ _ _ (start .start .ensures)
       (then _ _ _ _ (must .must .ensures)
       (then _ _ _ _ (bump .bump .ensures)

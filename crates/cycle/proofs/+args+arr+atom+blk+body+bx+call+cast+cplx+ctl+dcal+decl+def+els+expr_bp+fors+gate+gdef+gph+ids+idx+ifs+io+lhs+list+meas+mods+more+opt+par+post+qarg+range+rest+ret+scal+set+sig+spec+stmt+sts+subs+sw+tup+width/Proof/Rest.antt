@@ -1,7 +1,7 @@
 -- Written by tools/proofs from the code, the definitions and hints.py: docs/PRODUCTIONS.md says how to change it.
 -- `rest`.
 use Rattle.runtime.proofs.Laws.{then, see, any}
-use Rattle.grammar.proofs.Laws.{assoc, pick-bind, done-bind, passed}
+use Rattle.grammar.proofs.Laws.{assoc, cond-bind, done-bind, passed}
 use native.Mathlib.Omega.{arith}
 use mathlib.Core.Path.{_∙_}
 use Prim.Native.Nat.{ℕ}
@@ -64,7 +64,7 @@ module _ (t : ℕ) where
       let if1 = blk .before .before in
       let at = if1 .before in
       let completed = at .before .before .before in
-      simp (assoc, pick-bind, done-bind)
+      simp (assoc, cond-bind, done-bind)
       (passed _ _ _ _ (completed .completed .ensures)
       (see _ _ _ _ (at .at .ensures)
       (rw (if1 .if1 .taken)
@@ -95,7 +95,7 @@ module _ (t : ℕ) where
       let if1 = stmt .before .before in
       let at = if1 .before in
       let completed = at .before .before .before in
-      simp (assoc, pick-bind, done-bind)
+      simp (assoc, cond-bind, done-bind)
       (passed _ _ _ _ (completed .completed .ensures)
       (see _ _ _ _ (at .at .ensures)
       (rw (if1 .if1 .left)

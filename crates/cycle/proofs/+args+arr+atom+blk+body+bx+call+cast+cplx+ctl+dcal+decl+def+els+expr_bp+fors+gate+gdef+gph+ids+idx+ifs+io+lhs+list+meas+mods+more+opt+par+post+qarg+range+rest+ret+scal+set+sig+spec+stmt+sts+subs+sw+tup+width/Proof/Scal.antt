@@ -1,7 +1,7 @@
 -- Written by tools/proofs from the code, the definitions and hints.py: docs/PRODUCTIONS.md says how to change it.
 -- `scal`.
 use Rattle.runtime.proofs.Laws.{then, step, see, any}
-use Rattle.grammar.proofs.Laws.{assoc, pick-bind, done-bind}
+use Rattle.grammar.proofs.Laws.{assoc, cond-bind, done-bind}
 use native.Mathlib.Omega.{arith}
 use lib.ListN.{length}
 use mathlib.Core.Path.{_≡_, _∙_}
@@ -66,7 +66,7 @@ module _ (t : ℕ) where
       let cplx = c .before .before in
       let if1 = cplx .before .before in
       let at = if1 .before in
-      simp (assoc, pick-bind, done-bind)
+      simp (assoc, cond-bind, done-bind)
       (see _ _ _ _ (at .at .ensures)
       (rw (if1 .if1 .taken)
       (cplx .cplx .ensures)))
@@ -108,7 +108,7 @@ module _ (t : ℕ) where
       let start = type-name .before .before .before .before .before in
       let if1 = start .before .before in
       let at = if1 .before in
-      simp (assoc, pick-bind, done-bind)
+      simp (assoc, cond-bind, done-bind)
       (see _ _ _ _ (at .at .ensures)
       (rw (if1 .if1 .left)
       (step _ _ _ _ (start .start .ensures)
@@ -137,7 +137,7 @@ module _ (t : ℕ) where
       let start = type-name .before .before .before .before .before in
       let if1 = start .before .before in
       let at = if1 .before in
-      simp (assoc, pick-bind, done-bind)
+      simp (assoc, cond-bind, done-bind)
       (see _ _ _ _ (at .at .ensures)
       (rw (if1 .if1 .left)
       (step _ _ _ _ (start .start .ensures)

@@ -2,7 +2,7 @@
 -- `sig`.
 use borrow.Author.Needs.{needs}
 use Rattle.runtime.proofs.Laws.{then, step, peek, see, any}
-use Rattle.grammar.proofs.Laws.{assoc, pick-bind, done-bind, passed}
+use Rattle.grammar.proofs.Laws.{assoc, cond-bind, done-bind, passed}
 use native.Mathlib.Omega.{arith}
 use lib.ListN.{length}
 use mathlib.Core.Path.{_≡_, sym, _∙_}
@@ -132,7 +132,7 @@ module _ (t : ℕ) where
       let start = bump .before .before .before .before .before in
       let if1 = start .before .before in
       let at = if1 .before in
-      simp (assoc, pick-bind, done-bind)
+      simp (assoc, cond-bind, done-bind)
       (see _ _ _ _ (at .at .ensures)
       (rw (if1 .if1 .taken)
       (step _ _ _ _ (start .start .ensures)
@@ -180,7 +180,7 @@ module _ (t : ℕ) where
       let start = bump .before .before .before .before .before in
       let if1 = start .before .before in
       let at = if1 .before in
-      simp (assoc, pick-bind, done-bind)
+      simp (assoc, cond-bind, done-bind)
       (see _ _ _ _ (at .at .ensures)
       (rw (if1 .if1 .taken)
       (step _ _ _ _ (start .start .ensures)
@@ -215,7 +215,7 @@ module _ (t : ℕ) where
       let body3 = completed4 .before .before .before .before in
       let if1 = body3 .before .before in
       let at = if1 .before in
-      simp (assoc, pick-bind, done-bind)
+      simp (assoc, cond-bind, done-bind)
       (see _ _ _ _ (at .at .ensures)
       (rw (if1 .if1 .left)
       (then _ _ _ _ (body3 .body3 .ensures)

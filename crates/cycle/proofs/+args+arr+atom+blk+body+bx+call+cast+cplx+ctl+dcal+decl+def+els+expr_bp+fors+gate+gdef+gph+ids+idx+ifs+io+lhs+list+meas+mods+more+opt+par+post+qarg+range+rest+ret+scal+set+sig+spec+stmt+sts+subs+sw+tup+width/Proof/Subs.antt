@@ -1,7 +1,7 @@
 -- Written by tools/proofs from the code, the definitions and hints.py: docs/PRODUCTIONS.md says how to change it.
 -- `subs`.
 use Rattle.runtime.proofs.Laws.{then, step, see}
-use Rattle.grammar.proofs.Laws.{assoc, pick-bind, done-bind, past}
+use Rattle.grammar.proofs.Laws.{assoc, cond-bind, done-bind, past}
 use native.Mathlib.Omega.{arith}
 use lib.ListN.{length}
 use mathlib.Core.Path.{_≡_, _∙_}
@@ -97,7 +97,7 @@ module _ (t : ℕ) where
       let expected = at .before .before .before in
       let start = expected .before .before .before .before .before in
       let must = start .before .before .before .before in
-      simp (assoc, pick-bind, done-bind)
+      simp (assoc, cond-bind, done-bind)
       (then _ _ _ _ (must .must .ensures)
       (step _ _ _ _ (start .start .ensures)
       (past _ _ _ _ (expected .expected .ensures)
@@ -132,7 +132,7 @@ module _ (t : ℕ) where
       let expected = at .before .before .before in
       let start = expected .before .before .before .before .before in
       let must = start .before .before .before .before in
-      simp (assoc, pick-bind, done-bind)
+      simp (assoc, cond-bind, done-bind)
       (then _ _ _ _ (must .must .ensures)
       (step _ _ _ _ (start .start .ensures)
       (past _ _ _ _ (expected .expected .ensures)

@@ -2,7 +2,7 @@
 -- `sw`.
 use borrow.Author.Needs.{needs}
 use Rattle.runtime.proofs.Laws.{then, step, see, ends, Ran, ran-none, ran-more, ran-done, spent-does, spent-steps, left-sees, spends-bump}
-use Rattle.grammar.proofs.Laws.{assoc, pick-bind, done-bind, past, passed}
+use Rattle.grammar.proofs.Laws.{assoc, cond-bind, done-bind, past, passed}
 use native.Mathlib.Nat.{lt-of-le-of-lt}
 use native.Mathlib.Omega.{arith}
 use lib.ListN.{length}
@@ -241,7 +241,7 @@ module _ (t : ℕ) where
       let expected = expr-bp .before .before .before .before in
       let bump = expected .before .before .before .before in
       let must = bump .before .before .before .before in
-      simp (assoc, pick-bind, done-bind)
+      simp (assoc, cond-bind, done-bind)
       (then _ _ _ _ (must .must .ensures)
       (then _ _ _ _ (bump .bump .ensures)
       (past _ _ _ _ (expected .expected .ensures)
@@ -283,7 +283,7 @@ module _ (t : ℕ) where
       let expected = expr-bp .before .before .before .before in
       let bump = expected .before .before .before .before in
       let must = bump .before .before .before .before in
-      simp (assoc, pick-bind, done-bind)
+      simp (assoc, cond-bind, done-bind)
       (then _ _ _ _ (must .must .ensures)
       (then _ _ _ _ (bump .bump .ensures)
       (past _ _ _ _ (expected .expected .ensures)

@@ -1,7 +1,7 @@
 -- Written by tools/proofs from the code, the definitions and hints.py: docs/PRODUCTIONS.md says how to change it.
 -- `atom::inv_modifier` meets its contract. Assumes nothing.
 use Rattle.runtime.proofs.Laws.{then, step, see, ends}
-use Rattle.grammar.proofs.Laws.{assoc, pick-bind, done-bind}
+use Rattle.grammar.proofs.Laws.{assoc, cond-bind, done-bind}
 use mathlib.Core.Path.{_∙_}
 use Rattle.grammar.specs.Atom as A
 use Rattle.grammar.proofs.atom.inv_modifier.Statement.{statement}
@@ -39,7 +39,7 @@ returns c =
     let at = if1 .before in
     let bump = at .before .before .before in
     let start = bump .before .before .before .before .before in
-    simp (assoc, pick-bind, done-bind)
+    simp (assoc, cond-bind, done-bind)
     (step _ _ _ _ (start .start .ensures)
     (then _ _ _ _ (bump .bump .ensures)
     (see _ _ _ _ (at .at .ensures)
@@ -76,7 +76,7 @@ returns-2 c =
     let at = if1 .before in
     let bump = at .before .before .before in
     let start = bump .before .before .before .before .before in
-    simp (assoc, pick-bind, done-bind)
+    simp (assoc, cond-bind, done-bind)
     (step _ _ _ _ (start .start .ensures)
     (then _ _ _ _ (bump .bump .ensures)
     (see _ _ _ _ (at .at .ensures)
@@ -112,7 +112,7 @@ returns-3 c =
     let at = if1 .before in
     let bump = at .before .before .before in
     let start = bump .before .before .before .before .before in
-    simp (assoc, pick-bind, done-bind)
+    simp (assoc, cond-bind, done-bind)
     (step _ _ _ _ (start .start .ensures)
     (then _ _ _ _ (bump .bump .ensures)
     (see _ _ _ _ (at .at .ensures)

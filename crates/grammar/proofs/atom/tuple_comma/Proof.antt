@@ -1,7 +1,7 @@
 -- Written by tools/proofs from the code, the definitions and hints.py: docs/PRODUCTIONS.md says how to change it.
 -- `atom::tuple_comma` meets its contract. Assumes nothing.
 use Rattle.runtime.proofs.Laws.{then, step, ends}
-use Rattle.grammar.proofs.Laws.{assoc, pick-bind, done-bind}
+use Rattle.grammar.proofs.Laws.{assoc, cond-bind, done-bind}
 use mathlib.Core.Path.{_∙_}
 use Rattle.grammar.specs.Atom as A
 use Rattle.grammar.proofs.atom.tuple_comma.Statement.{statement}
@@ -25,7 +25,7 @@ returns c =
     let error = c .before .before in
     let if1 = error .before .before in
     let eat = if1 .before .before .before .before in
-    simp (assoc, pick-bind, done-bind)
+    simp (assoc, cond-bind, done-bind)
     (then _ _ _ _ (eat .eat .ensures)
     (rw (if1 .if1 .taken)
     (step _ _ _ _ (error .error .ensures)
@@ -36,7 +36,7 @@ same-length-2 c = c .before .before .before .before .eat .kept .1 .1 .1 .0
 
 returns-2 : tie.Need-returns-2
 unfolding A.tupleComma
-returns-2 c = simp (assoc, pick-bind, done-bind)
+returns-2 c = simp (assoc, cond-bind, done-bind)
     (then _ _ _ _ (c .before .before .before .before .eat .ensures)
     (rw (c .if1 .left)
     (ends _ _ _ (c .before .before .before .before .eat .ensures .fit))))

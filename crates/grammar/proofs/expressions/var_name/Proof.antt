@@ -1,7 +1,7 @@
 -- Written by tools/proofs from the code, the definitions and hints.py: docs/PRODUCTIONS.md says how to change it.
 -- `expressions::var_name` meets its contract. Assumes nothing.
 use Rattle.runtime.proofs.Laws.{then, step, see, ends}
-use Rattle.grammar.proofs.Laws.{assoc, pick-bind, done-bind}
+use Rattle.grammar.proofs.Laws.{assoc, cond-bind, done-bind}
 use mathlib.Core.Path.{_∙_}
 use Rattle.grammar.specs.Expressions as E
 use Rattle.grammar.proofs.expressions.var_name.Statement.{statement}
@@ -34,7 +34,7 @@ returns c =
     let if1 = bump-any .before .before in
     let at = if1 .before in
     let start = at .before .before .before .before in
-    simp (assoc, pick-bind, done-bind)
+    simp (assoc, cond-bind, done-bind)
     (step _ _ _ _ (start .start .ensures)
     (see _ _ _ _ (at .at .ensures)
     (rw (if1 .if1 .taken)
@@ -63,7 +63,7 @@ returns-2 c =
     let if1 = error .before .before in
     let at = if1 .before in
     let start = at .before .before .before .before in
-    simp (assoc, pick-bind, done-bind)
+    simp (assoc, cond-bind, done-bind)
     (step _ _ _ _ (start .start .ensures)
     (see _ _ _ _ (at .at .ensures)
     (rw (if1 .if1 .left)

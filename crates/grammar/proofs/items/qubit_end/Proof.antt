@@ -1,7 +1,7 @@
 -- Written by tools/proofs from the code, the definitions and hints.py: docs/PRODUCTIONS.md says how to change it.
 -- `items::qubit_end` meets its contract. Assumes nothing.
 use Rattle.runtime.proofs.Laws.{then, step, see, ends}
-use Rattle.grammar.proofs.Laws.{assoc, pick-bind, done-bind}
+use Rattle.grammar.proofs.Laws.{assoc, cond-bind, done-bind}
 use mathlib.Core.Path.{_∙_}
 use Rattle.grammar.specs.Items as I
 use Rattle.grammar.proofs.items.qubit_end.Statement.{statement}
@@ -34,7 +34,7 @@ returns c =
     let hardware-qubit = expect .before .before .before .before .before in
     let if1 = hardware-qubit .before .before in
     let at = if1 .before in
-    simp (assoc, pick-bind, done-bind)
+    simp (assoc, cond-bind, done-bind)
     (see _ _ _ _ (at .at .ensures)
     (rw (if1 .if1 .taken)
     (then _ _ _ _ (hardware-qubit .hardware-qubit .ensures)
@@ -66,7 +66,7 @@ returns-2 c =
     let var-name = expect2 .before .before .before .before in
     let if1 = var-name .before .before in
     let at = if1 .before in
-    simp (assoc, pick-bind, done-bind)
+    simp (assoc, cond-bind, done-bind)
     (see _ _ _ _ (at .at .ensures)
     (rw (if1 .if1 .left)
     (then _ _ _ _ (var-name .var-name .ensures)

@@ -1,7 +1,7 @@
 -- Written by tools/proofs from the code, the definitions and hints.py: docs/PRODUCTIONS.md says how to change it.
 -- `params::list_end` meets its contract. Assumes nothing.
 use Rattle.runtime.proofs.Laws.{then, step, ends}
-use Rattle.grammar.proofs.Laws.{assoc, pick-bind, done-bind}
+use Rattle.grammar.proofs.Laws.{assoc, cond-bind, done-bind}
 use mathlib.Core.Path.{_∙_}
 use Rattle.grammar.specs.Params as P
 use Rattle.grammar.proofs.params.list_end.Statement.{statement}
@@ -30,7 +30,7 @@ returns c =
     let expect = complete .before .before .before .before .before in
     let if1 = expect .before .before in
     let list-empty = if1 .before .before .before in
-    simp (assoc, pick-bind, done-bind)
+    simp (assoc, cond-bind, done-bind)
     (step _ _ _ _ (list-empty .list-empty .ensures)
     (rw (if1 .if1 .taken)
     (then _ _ _ _ (expect .expect .ensures)
@@ -52,7 +52,7 @@ returns-2 c =
     let complete2 = c .before .before .before in
     let if1 = complete2 .before .before in
     let list-empty = if1 .before .before .before in
-    simp (assoc, pick-bind, done-bind)
+    simp (assoc, cond-bind, done-bind)
     (step _ _ _ _ (list-empty .list-empty .ensures)
     (rw (if1 .if1 .left)
     (step _ _ _ _ (complete2 .complete2 .ensures)

@@ -1,7 +1,7 @@
 -- Written by tools/proofs from the code, the definitions and hints.py: docs/PRODUCTIONS.md says how to change it.
 -- `params::list_open` meets its contract. Assumes nothing.
 use Rattle.runtime.proofs.Laws.{then, step, ends}
-use Rattle.grammar.proofs.Laws.{assoc, pick-bind, done-bind}
+use Rattle.grammar.proofs.Laws.{assoc, cond-bind, done-bind}
 use mathlib.Core.Path.{_∙_}
 use Rattle.grammar.specs.Params as P
 use Rattle.grammar.proofs.params.list_open.Statement.{statement}
@@ -25,7 +25,7 @@ returns c =
     let bump = c .before .before in
     let if1 = bump .before .before in
     let start = if1 .before .before .before .before in
-    simp (assoc, pick-bind, done-bind)
+    simp (assoc, cond-bind, done-bind)
     (step _ _ _ _ (start .start .ensures)
     (rw (if1 .if1 .taken)
     (then _ _ _ _ (bump .bump .ensures)
@@ -36,7 +36,7 @@ same-length-2 c = c .before .before .before .before .start .kept .1 .0
 
 returns-2 : tie.Need-returns-2
 unfolding P.listOpen
-returns-2 c = simp (assoc, pick-bind, done-bind)
+returns-2 c = simp (assoc, cond-bind, done-bind)
     (step _ _ _ _ (c .before .before .before .before .start .ensures)
     (rw (c .if1 .left)
     (ends _ _ _ (c .before .before .before .before .start .ensures .fit))))

@@ -1,9 +1,7 @@
 -- `parser::Parser::abandon` meets its contract. Assumes nothing.
 use borrow.Author.Needs.{needs}
-use mathlib.Core.Path.{sym, _∙_}
-use mathlib.Core.Path.{refl}
-use native.Mathlib.Omega.{arith}
-use Rattle.runtime.specs.Event.{isBare}
+use mathlib.Core.Path.{refl, sym, _∙_}
+use Rattle.event.specs.Event.{isBare}
 use Rattle.runtime.proofs.Cases.{inside, abandon-still, abandon-inner, abandon-other, abandon-done}
 use Rattle.runtime.proofs.parser.Parser.abandon.Statement.{statement}
 use Rattle.runtime.proofs.parser.Parser.abandon.Tie as tie
@@ -21,10 +19,10 @@ is-bare-requires : tie.Need-is-bare-requires
 is-bare-requires c κs = search needs
 
 store-requires : tie.Need-store-requires
-store-requires c κs = omega (arith, inside _ _ _ isBare refl (sym (c .before .before .is-bare .ensures) ∙ c .before .if3 .taken) .1)
+store-requires c κs = inside _ _ _ isBare refl (sym (c .before .before .is-bare .ensures) ∙ c .before .if3 .taken) .1
 
-sub-t14 : tie.Need-sub-t14
-sub-t14 c = search needs
+sub-t15 : tie.Need-sub-t15
+sub-t15 c = search needs
 
 same-length : tie.Need-same-length
 same-length c = search needs
@@ -50,7 +48,7 @@ abandon-spec =
     returns-2
     is-bare-requires
     store-requires
-    sub-t14
+    sub-t15
     same-length
     returns-3
     refuse-requires

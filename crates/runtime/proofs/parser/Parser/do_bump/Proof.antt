@@ -10,11 +10,8 @@ add-enough c = search needs
 enough-requires : tie.Need-enough-requires
 enough-requires c κs = search needs
 
-add-push-event : tie.Need-add-push-event
-add-push-event c = search needs
-
-cast-push-event : tie.Need-cast-push-event
-cast-push-event c = search needs
+cast-t12 : tie.Need-cast-t12
+cast-t12 c = search needs
 
 push-event-requires : tie.Need-push-event-requires
 push-event-requires c κs = search needs
@@ -23,16 +20,16 @@ same-length : tie.Need-same-length
 same-length c = search needs
 
 returns : tie.Need-returns
-returns c = bump-full _ _ _ _ (c .before .before .before .before .before .before .before .before .before .before .before .before .fits .kind .fits) (c .before .before .before .before .before .before .before .before .before .before .before .before .pre .1 .0) (c .before .before .before .before .before .before .before .before .before .before .before .before .pre .1 .1) (c .before .before .before .before .before .before .before .enough .ensures) (c .before .before .before .before .before .before .if1 .taken) (c .before .before .before .before .push-event .ensures .same) (c .if2 .taken)
+returns c = bump-full _ _ _ _ (c .before .before .before .before .before .before .before .enough .ensures) (c .before .before .before .before .before .before .if1 .taken) (c .before .before .before .before .push-event .ensures .same) (c .if2 .taken)
 
-add-t16 : tie.Need-add-t16
-add-t16 c = search needs
+add-t15 : tie.Need-add-t15
+add-t15 c = search needs
 
 same-length-2 : tie.Need-same-length-2
 same-length-2 c = search needs
 
 returns-2 : tie.Need-returns-2
-returns-2 c = bump-done _ _ _ _ (c .before .before .before .before .before .before .before .before .before .before .before .before .before .fits .kind .fits) (c .before .before .before .before .before .before .before .before .before .before .before .before .before .pre .1 .0) (c .before .before .before .before .before .before .before .before .before .before .before .before .before .pre .1 .1) (c .before .before .before .before .before .before .before .before .enough .ensures) (c .before .before .before .before .before .before .before .if1 .taken) (c .before .before .before .before .before .push-event .ensures .same) (c .before .if2 .left)
+returns-2 c = bump-done _ _ _ _ (c .before .before .before .before .before .before .before .before .enough .ensures) (c .before .before .before .before .before .before .before .if1 .taken) (c .before .before .before .before .before .push-event .ensures .same) (c .before .if2 .left)
 
 returns-3 : tie.Need-returns-3
 returns-3 c = bump-still _ _ _ _ (c .before .before .before .enough .ensures) (c .before .before .if1 .left) (c .if3 .taken)
@@ -49,12 +46,11 @@ do-bump-spec =
     (tie.spec
     add-enough
     enough-requires
-    add-push-event
-    cast-push-event
+    cast-t12
     push-event-requires
     same-length
     returns
-    add-t16
+    add-t15
     same-length-2
     returns-2
     returns-3

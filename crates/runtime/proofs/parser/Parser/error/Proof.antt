@@ -4,9 +4,6 @@ use Rattle.runtime.proofs.Cases.{error-done}
 use Rattle.runtime.proofs.parser.Parser.error.Statement.{statement}
 use Rattle.runtime.proofs.parser.Parser.error.Tie as tie
 
-add-push-event : tie.Need-add-push-event
-add-push-event c = search needs
-
 push-event-requires : tie.Need-push-event-requires
 push-event-requires c κs = search needs
 
@@ -14,7 +11,7 @@ same-length : tie.Need-same-length
 same-length c = search needs
 
 returns : tie.Need-returns
-returns c = error-done _ _ _ (c .before .before .before .before .before .pre) (c .before .before .before .before .before .fits .code .fits) (c .before .before .before .before .before .fits .arg .fits) (c .before .before .push-event .ensures .same)
+returns c = error-done _ _ _ (c .before .before .before .before .before .pre) (c .before .before .push-event .ensures .same)
 
 pub error-spec : {M : Type 1} → statement M
-error-spec = tie.close (tie.spec add-push-event push-event-requires same-length returns)
+error-spec = tie.close (tie.spec push-event-requires same-length returns)

@@ -1,11 +1,8 @@
 -- `parser::Parser::link` meets its contract. Assumes nothing.
 use borrow.Author.Needs.{needs}
 use mathlib.Core.Path.{sym, _∙_}
-use mathlib.Core.Path.{refl}
-use native.Mathlib.Omega.{arith}
-use Rattle.runtime.specs.Event.{isStart}
 use Rattle.runtime.specs.State.{linked}
-use Rattle.runtime.proofs.Cases.{moves, inside, link-still, link-none, link-done, fit-linked}
+use Rattle.runtime.proofs.Cases.{moves, start-there, link-still, link-none, link-done, fit-linked}
 use Rattle.runtime.proofs.parser.Parser.link.Statement.{statement}
 use Rattle.runtime.proofs.parser.Parser.link.Tie as tie
 
@@ -15,23 +12,14 @@ returns c = moves (linked _ _) _ (link-still _ _ _ (c .if1 .taken)) (fit-linked 
 is-start-requires : tie.Need-is-start-requires
 is-start-requires c κs = search needs
 
-mul-at : tie.Need-mul-at
-mul-at c = omega (arith, inside _ _ _ isStart refl (sym (c .before .is-start .ensures) ∙ c .if2 .taken) .1)
-
-mul-first : tie.Need-mul-first
-mul-first c = omega (arith, inside _ _ _ isStart refl (sym (c .before .is-start .ensures) ∙ c .if2 .taken) .1)
-
-slice-read-first : tie.Need-slice-read-first
-slice-read-first c = omega (arith, inside _ _ _ isStart refl (sym (c .before .before .is-start .ensures) ∙ c .before .if2 .taken) .1)
-
-store-requires : tie.Need-store-requires
-store-requires c κs = omega (arith, inside _ _ _ isStart refl (sym (c .before .before .before .is-start .ensures) ∙ c .before .before .if2 .taken) .1)
+set-distance-requires : tie.Need-set-distance-requires
+set-distance-requires c κs = start-there _ _ _ (sym (c .before .before .is-start .ensures) ∙ c .before .if2 .taken)
 
 same-length : tie.Need-same-length
 same-length c = search needs
 
 returns-2 : tie.Need-returns-2
-returns-2 c = moves (linked _ _) _ (rw (c .before .before .store .ensures) (link-done _ _ _ _ (c .before .before .before .before .before .before .before .before .if1 .left) (sym (c .before .before .before .before .before .before .is-start .ensures) ∙ c .before .before .before .before .before .if2 .taken))) (fit-linked _ _ _ (c .before .before .before .before .before .before .before .before .before .before .before .pre))
+returns-2 c = let s = c .before .before .before .before .before .before .before .before .before .before in moves (linked _ _) _ (rw (c .before .before .set-distance .ensures) (link-done _ _ _ _ (c .before .before .before .before .before .before .before .if1 .left) (sym (c .before .before .before .before .before .is-start .ensures) ∙ c .before .before .before .before .if2 .taken))) (fit-linked _ _ _ (s .pre))
 
 refuse-requires : tie.Need-refuse-requires
 refuse-requires c κs = search needs
@@ -48,10 +36,7 @@ link-spec =
     (tie.spec
     returns
     is-start-requires
-    mul-at
-    mul-first
-    slice-read-first
-    store-requires
+    set-distance-requires
     same-length
     returns-2
     refuse-requires

@@ -1,0 +1,1 @@
+// Proofs alone: laws of tests and choices that every crate uses.
