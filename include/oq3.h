@@ -6,8 +6,8 @@
  *
  * A program that parses links the first, one that only reads step files (docs/SEQUENCERS.md) the second; none needs both. The functions take
  * what is lent, return a number and write into lent rooms alone. They use no heap and no global state: they are re-entrant, and what one call
- * answers depends on what it is lent. docs/RULES.md says what each does, to the last word; docs/KINDS.md and docs/MESSAGES.md have the kinds
- * and the error codes.
+ * answers depends on what it is lent. docs/RULES.md says what each does, to the last word; oq3_kinds.h has the kinds and the error codes by
+ * name, docs/KINDS.md and docs/MESSAGES.md with what they are.
  *
  * Nothing checks this header against the source (crates/oq3/src/lib.rt, crates/oq3_read/src/lib.rt): it is kept by hand, and
  * examples/c/test.c runs it.
@@ -25,6 +25,9 @@
 
 #include <stddef.h>
 #include <stdint.h>
+
+/* The version of the library: that of the crate oq3_parser whose parser it is, and a number that counts what this header has said. */
+#define OQ3_VERSION "0.7.0-1"
 
 #ifdef __cplusplus
 extern "C" {
@@ -66,8 +69,10 @@ enum {
     OQ3_STACK = 262144           /* bytes of stack that are enough for any call, on x86-64 */
 };
 
-/* The words of an answer about a step file. */
+/* The words of an answer room: at least so many must be lent, and further ones stay. */
 enum {
+    OQ3_PARSE_WORDS = 3, /* oq3_parse: place, events, lookups */
+    OQ3_LIST_WORDS = 1,  /* oq3_check and oq3_resolve: place */
     OQ3_FILE_WORDS = 2,  /* oq3_read_file: place, records */
     OQ3_STEP_WORDS = 6   /* oq3_read_step: bytes taken, record kind, and four for the payload */
 };
@@ -87,7 +92,7 @@ enum {
  *   kinds   one kind for each token, trivia left out
  *   joints  token i touches the next one where bit i % 64, counted from the lowest, of joints[i / 64] is 1; further words and bits are ignored
  *   room    the event room, two words for each event, of any contents; an odd last word holds none
- *   answer  at least 3 words: the place, the events and the lookups. A refusal has 0 for the last two. Further words stay
+ *   answer  at least OQ3_PARSE_WORDS words: the place, the events and the lookups. A refusal has 0 for the last two. Further words stay
  *
  * Done, the events are the first OQ3_ROOM_WORDS(answer[1]) words of the room, and every word behind them is 0. Refused with 5 to 8 the whole room is 0.
  * Refused with 1 to 4, 100 or 101 it is untouched.
@@ -104,14 +109,14 @@ uint32_t oq3_parse(uint32_t entry, uint32_t mode,
                    uint64_t *answer, size_t answer_length);
 
 /*
- * Whether a list of events is well formed: 0, 2 or 9. It changes nothing but answer[0], the place; the answer has at least 1 word.
- * Of a parsed room, lend the list alone, 2 * events words: the zeros behind it are no events.
+ * Whether a list of events is well formed: 0, 2 or 9. It changes nothing but answer[0], the place; the answer has at least OQ3_LIST_WORDS
+ * words. Of a parsed room, lend the list alone, OQ3_ROOM_WORDS(events) words: the zeros behind it are no events.
  */
 uint32_t oq3_check(const uint32_t *words, size_t words_length,
                    uint64_t *answer, size_t answer_length);
 
 /*
- * Checks a list of events and resolves it into a step file: 0, 2, 9 or 10. The answer has at least 1 word.
+ * Checks a list of events and resolves it into a step file: 0, 2, 9 or 10. The answer has at least OQ3_LIST_WORDS words.
  *
  * Done, the first answer[0] bytes of the step room are the file, its other bytes are as they were, and the list is used up: each event is a
  * start without kind and distance. Refused, both rooms are untouched; after a 10 answer[0] is the number of bytes to lend, and the same

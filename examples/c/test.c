@@ -5,13 +5,20 @@
 #include <stdio.h>
 #include <string.h>
 
+#include "oq3_kinds.h"
 #include "oq3.h"
 
 #define GUARD 16 /* elements on both sides of a room */
-#define WORDS 45016 /* 22,508 events: the least room in which `def f ( 3` is refused with 7 (docs/PANICS.md) */
+#define LEAST 22508 /* events of the least room in which `def f ( 3` is refused with 7 (docs/PANICS.md) */
+#define JOINTS (OQ3_JOINT_WORDS(OQ3_MOST_TOKENS) + 1)
+#define STEPS 1024 /* bytes of the step room */
 
-enum { L_PAREN = 5, R_CURLY = 8, MINUS = 37, DEF_KW = 58, DELAY_KW = 63, RESET_KW = 64, INT_NUMBER = 99, IDENT = 115, SEMICOLON = 3, EQ = 32,
-       EQ2 = 33, EOF_KIND = 1, ERROR = 114, BIN_EXPR = 160, IDENTIFIER = 187 };
+/* The kinds by shorter names. */
+enum {
+    L_PAREN = OQ3_KIND_L_PAREN, R_CURLY = OQ3_KIND_R_CURLY, MINUS = OQ3_KIND_MINUS, DEF_KW = OQ3_KIND_DEF_KW, DELAY_KW = OQ3_KIND_DELAY_KW,
+    RESET_KW = OQ3_KIND_RESET_KW, INT_NUMBER = OQ3_KIND_INT_NUMBER, IDENT = OQ3_KIND_IDENT, SEMICOLON = OQ3_KIND_SEMICOLON, EQ = OQ3_KIND_EQ,
+    EQ2 = OQ3_KIND_EQ2, ERROR = OQ3_KIND_ERROR, BIN_EXPR = OQ3_KIND_BIN_EXPR, IDENTIFIER = OQ3_KIND_IDENTIFIER
+};
 
 static int failed;
 
@@ -27,15 +34,15 @@ static void is(int line, const char *what, uint64_t got, uint64_t expected)
 
 /* The rooms with their guards. All is filled with 0xa5 before a call. */
 static uint16_t kinds_all[GUARD + OQ3_MOST_TOKENS + 1 + GUARD], *const kinds = kinds_all + GUARD;
-static uint64_t joints_all[GUARD + 129 + GUARD], *const joints = joints_all + GUARD;
-static uint32_t room_all[GUARD + OQ3_MOST_ROOM + 2 + GUARD], *const room = room_all + GUARD;
-static uint8_t steps_all[GUARD + 1024 + GUARD], *const steps = steps_all + GUARD;
+static uint64_t joints_all[GUARD + JOINTS + GUARD], *const joints = joints_all + GUARD;
+static uint32_t room_all[GUARD + OQ3_MOST_ROOM + OQ3_EVENT_WORDS + GUARD], *const room = room_all + GUARD;
+static uint8_t steps_all[GUARD + STEPS + GUARD], *const steps = steps_all + GUARD;
 static uint64_t answer_all[GUARD + 8 + GUARD], *const answer = answer_all + GUARD;
 
 static uint16_t kinds_before[GUARD + OQ3_MOST_TOKENS + 1 + GUARD];
-static uint64_t joints_before[GUARD + 129 + GUARD];
-static uint32_t room_before[GUARD + OQ3_MOST_ROOM + 2 + GUARD];
-static uint8_t steps_before[GUARD + 1024 + GUARD];
+static uint64_t joints_before[GUARD + JOINTS + GUARD];
+static uint32_t room_before[GUARD + OQ3_MOST_ROOM + OQ3_EVENT_WORDS + GUARD];
+static uint8_t steps_before[GUARD + STEPS + GUARD];
 
 static void fill(void)
 {
@@ -81,7 +88,7 @@ static void parses(int line, uint32_t entry, uint32_t mode, size_t tokens, size_
     size_t i, untouched = number >= 1 && (number <= 4 || number >= 100), used;
     begin();
     is(line, "the number", oq3_parse(entry, mode, kinds, tokens, joints, joint_words, room, words, answer, answers), number);
-    ended(line, untouched ? 0 : words, 0, number == OQ3_NO_ANSWER_ROOM ? 0 : 3);
+    ended(line, untouched ? 0 : words, 0, number == OQ3_NO_ANSWER_ROOM ? 0 : OQ3_PARSE_WORDS);
     if (number != OQ3_NO_ANSWER_ROOM) {
         is(line, "the place", answer[0], place);
         is(line, "the events", answer[1], events);
@@ -106,7 +113,7 @@ static void checks(int line, size_t words, size_t answers, uint32_t number, uint
 {
     begin();
     is(line, "the number", oq3_check(room, words, answer, answers), number);
-    ended(line, 0, 0, number == OQ3_NO_ANSWER_ROOM ? 0 : 1);
+    ended(line, 0, 0, number == OQ3_NO_ANSWER_ROOM ? 0 : OQ3_LIST_WORDS);
     if (number != OQ3_NO_ANSWER_ROOM) {
         is(line, "the place", answer[0], place);
     }
@@ -116,7 +123,7 @@ static void resolves(int line, size_t words, size_t bytes, size_t answers, uint3
 {
     begin();
     is(line, "the number", oq3_resolve(room, words, steps, bytes, answer, answers), number);
-    ended(line, number == OQ3_DONE ? words : 0, number == OQ3_DONE ? (size_t)place : 0, number == OQ3_NO_ANSWER_ROOM ? 0 : 1);
+    ended(line, number == OQ3_DONE ? words : 0, number == OQ3_DONE ? (size_t)place : 0, number == OQ3_NO_ANSWER_ROOM ? 0 : OQ3_LIST_WORDS);
     if (number != OQ3_NO_ANSWER_ROOM) {
         is(line, "the place", answer[0], place);
     }
@@ -156,9 +163,9 @@ static void record(int line, const uint8_t *bytes, size_t count, uint32_t number
 {
     fill();
     memcpy(steps, bytes, count);
-    reads(line, count, 3, number, number == OQ3_DONE ? count : 0, number == OQ3_DONE);
+    reads(line, count, OQ3_FILE_WORDS + 1, number, number == OQ3_DONE ? count : 0, number == OQ3_DONE);
     if (number != OQ3_DONE) {
-        takes(line, 0, count, 7, number, 0, 0, 0, 0);
+        takes(line, 0, count, OQ3_STEP_WORDS + 1, number, 0, 0, 0, 0);
     }
 }
 
@@ -197,12 +204,12 @@ int main(void)
     size_t i;
 
     /* An empty source file: a start and its finish, no lookup. Rooms of no elements are lent with a pointer into their guards. */
-    const uint32_t empty[] = { OQ3_EVENT_START + 121, 0, OQ3_EVENT_FINISH, 0 };
+    const uint32_t empty[] = { OQ3_EVENT_START + OQ3_KIND_SOURCE_FILE, 0, OQ3_EVENT_FINISH, 0 };
     fill();
-    PARSES(OQ3_SOURCE_FILE, 0, 0, 0, 4, 3, OQ3_DONE, 0, 2, 0);
+    PARSES(OQ3_SOURCE_FILE, OQ3_MODE_CRATE, 0, 0, 4, OQ3_PARSE_WORDS, OQ3_DONE, 0, 2, 0);
     is(__LINE__, "the list", (uint64_t)memcmp(room, empty, sizeof empty), 0);
-    PARSES(OQ3_SOURCE_FILE, 0, 0, 0, 3, 3, OQ3_NO_EVENT_ROOM, 0, 0, 0);
-    PARSES(OQ3_SOURCE_FILE, 0, 0, 0, 0, 3, OQ3_NO_EVENT_ROOM, 0, 0, 0);
+    PARSES(OQ3_SOURCE_FILE, OQ3_MODE_CRATE, 0, 0, 3, OQ3_PARSE_WORDS, OQ3_NO_EVENT_ROOM, 0, 0, 0);
+    PARSES(OQ3_SOURCE_FILE, OQ3_MODE_CRATE, 0, 0, 0, OQ3_PARSE_WORDS, OQ3_NO_EVENT_ROOM, 0, 0, 0);
 
     /* a == b, the two = touching; the words behind the list, an odd last one too, become 0. */
     const uint16_t equal[] = { IDENT, EQ, EQ, IDENT };
@@ -216,67 +223,67 @@ int main(void)
     tokens(equal, 4);
     joints[0] = 2;
     begin();
-    IS(oq3_parse(OQ3_EXPRESSION, OQ3_MODE_SPECIFICATION, kinds, 4, joints, 1, room, 101, answer, 4), OQ3_DONE);
-    ended(__LINE__, 101, 0, 3);
+    IS(oq3_parse(OQ3_EXPRESSION, OQ3_MODE_SPECIFICATION, kinds, 4, joints, 1, room, 101, answer, OQ3_PARSE_WORDS + 1), OQ3_DONE);
+    ended(__LINE__, 101, 0, OQ3_PARSE_WORDS);
     IS(answer[0], 4);
     for (i = OQ3_ROOM_WORDS(answer[1]); i < 101; i++) {
         IS(room[i], 0);
     }
     size_t words = OQ3_ROOM_WORDS(answer[1]);
-    CHECKS(words, 1, OQ3_DONE, words / 2);
+    CHECKS(words, OQ3_LIST_WORDS, OQ3_DONE, words / OQ3_EVENT_WORDS);
     CHECKS(words, 0, OQ3_NO_ANSWER_ROOM, 0);
-    CHECKS(words + 1, 1, OQ3_FAULTY_LIST, words / 2);
-    CHECKS(words + 2, 1, OQ3_FAULTY_LIST, words / 2);
+    CHECKS(words + 1, OQ3_LIST_WORDS, OQ3_FAULTY_LIST, words / OQ3_EVENT_WORDS);
+    CHECKS(words + OQ3_EVENT_WORDS, OQ3_LIST_WORDS, OQ3_FAULTY_LIST, words / OQ3_EVENT_WORDS);
     RESOLVES(words, 0, 0, OQ3_NO_ANSWER_ROOM, 0);
-    RESOLVES(words, 0, 1, OQ3_NO_STEP_ROOM, sizeof equal_file);
-    RESOLVES(words, sizeof equal_file - 1, 1, OQ3_NO_STEP_ROOM, sizeof equal_file);
-    RESOLVES(words, 1024, 2, OQ3_DONE, sizeof equal_file);
+    RESOLVES(words, 0, OQ3_LIST_WORDS, OQ3_NO_STEP_ROOM, sizeof equal_file);
+    RESOLVES(words, sizeof equal_file - 1, OQ3_LIST_WORDS, OQ3_NO_STEP_ROOM, sizeof equal_file);
+    RESOLVES(words, STEPS, OQ3_LIST_WORDS + 1, OQ3_DONE, sizeof equal_file);
     is(__LINE__, "the step file", (uint64_t)memcmp(steps, equal_file, sizeof equal_file), 0);
     for (i = 0; i < words; i++) {
-        IS(room[i], i % 2 == 0 ? OQ3_EVENT_START : 0);
+        IS(room[i], i % OQ3_EVENT_WORDS == 0 ? OQ3_EVENT_START : 0);
     }
 
-    /* The list of docs/RULES.md, section 9: 9 steps in 51 bytes. */
+    /* The list of docs/RULES.md, section 9, with the kinds 40, 41, 50 and 51 that it has: 9 steps in 51 bytes. */
     const uint32_t nine[] = {
-        65536, 1, 65536 + 40, 3, 196608 + 50, 1, 131072, 0, 65536 + 41, 0, 196608 + 51, 1, 65536, 1, 65536 + 40, 0, 196608 + 50, 1,
-        131072, 0, 131072, 0
+        OQ3_EVENT_START, 1, OQ3_EVENT_START + 40, 3, OQ3_EVENT_TOKEN + 50, 1, OQ3_EVENT_FINISH, 0, OQ3_EVENT_START + 41, 0,
+        OQ3_EVENT_TOKEN + 51, 1, OQ3_EVENT_START, 1, OQ3_EVENT_START + 40, 0, OQ3_EVENT_TOKEN + 50, 1, OQ3_EVENT_FINISH, 0, OQ3_EVENT_FINISH, 0
     };
     list(nine, 22);
-    CHECKS(22, 1, OQ3_DONE, 11);
-    RESOLVES(22, 50, 1, OQ3_NO_STEP_ROOM, 51);
-    RESOLVES(22, 51, 1, OQ3_DONE, 51);
+    CHECKS(22, OQ3_LIST_WORDS, OQ3_DONE, 11);
+    RESOLVES(22, 50, OQ3_LIST_WORDS, OQ3_NO_STEP_ROOM, 51);
+    RESOLVES(22, 51, OQ3_LIST_WORDS, OQ3_DONE, 51);
 
     /* Its file: whole, cut, and with two bytes behind it. The reader writes nothing but its answer. */
-    READS(51, 2, OQ3_DONE, 51, 9);
-    READS(51, 8, OQ3_DONE, 51, 9);
-    READS(51, 1, OQ3_NO_ANSWER_ROOM, 0, 0);
+    READS(51, OQ3_FILE_WORDS, OQ3_DONE, 51, 9);
+    READS(51, OQ3_FILE_WORDS + 6, OQ3_DONE, 51, 9);
+    READS(51, OQ3_FILE_WORDS - 1, OQ3_NO_ANSWER_ROOM, 0, 0);
     READS(51, 0, OQ3_NO_ANSWER_ROOM, 0, 0);
-    READS(50, 2, OQ3_CUT_RECORD, 47, 0);
-    READS(47, 2, OQ3_BAD_NESTING, 47, 0);
-    READS(3, 2, OQ3_CUT_RECORD, 0, 0);
-    READS(0, 2, OQ3_BAD_NESTING, 0, 0);
-    READS(53, 2, OQ3_CUT_RECORD, 51, 0);
+    READS(50, OQ3_FILE_WORDS, OQ3_CUT_RECORD, 47, 0);
+    READS(47, OQ3_FILE_WORDS, OQ3_BAD_NESTING, 47, 0);
+    READS(3, OQ3_FILE_WORDS, OQ3_CUT_RECORD, 0, 0);
+    READS(0, OQ3_FILE_WORDS, OQ3_BAD_NESTING, 0, 0);
+    READS(53, OQ3_FILE_WORDS, OQ3_CUT_RECORD, 51, 0);
     for (i = 0; i < 51; i++) {
         begin();
-        is(__LINE__, "a cut file is done", oq3_read_file(steps, i, answer, 2) == OQ3_DONE, 0);
+        is(__LINE__, "a cut file is done", oq3_read_file(steps, i, answer, OQ3_FILE_WORDS) == OQ3_DONE, 0);
         IS(answer[1], 0);
     }
 
     /* Its steps, one by one, with the rest of the file; then the end. */
-    TAKES(0, 51, 6, OQ3_DONE, 6, OQ3_STEP_ENTER, 41, 0);
-    TAKES(6, 51, 8, OQ3_DONE, 6, OQ3_STEP_ENTER, 40, 0);
-    TAKES(12, 51, 6, OQ3_DONE, 7, OQ3_STEP_TOKEN, 50, 1);
-    TAKES(19, 51, 6, OQ3_DONE, 4, OQ3_STEP_LEAVE, 0, 0);
-    TAKES(23, 51, 6, OQ3_DONE, 7, OQ3_STEP_TOKEN, 51, 1);
-    TAKES(30, 51, 6, OQ3_DONE, 6, OQ3_STEP_ENTER, 40, 0);
-    TAKES(36, 51, 6, OQ3_DONE, 7, OQ3_STEP_TOKEN, 50, 1);
-    TAKES(43, 51, 6, OQ3_DONE, 4, OQ3_STEP_LEAVE, 0, 0);
-    TAKES(47, 51, 6, OQ3_DONE, 4, OQ3_STEP_LEAVE, 0, 0);
-    TAKES(51, 51, 6, OQ3_DONE, 0, OQ3_STEP_END, 0, 0);
-    TAKES(51, 51, 8, OQ3_DONE, 0, OQ3_STEP_END, 0, 0);
-    TAKES(47, 50, 6, OQ3_CUT_RECORD, 0, 0, 0, 0);
-    TAKES(12, 18, 6, OQ3_CUT_RECORD, 0, 0, 0, 0);
-    TAKES(1, 51, 6, OQ3_CUT_RECORD, 0, 0, 0, 0);
+    TAKES(0, 51, OQ3_STEP_WORDS, OQ3_DONE, 6, OQ3_STEP_ENTER, 41, 0);
+    TAKES(6, 51, OQ3_STEP_WORDS + 2, OQ3_DONE, 6, OQ3_STEP_ENTER, 40, 0);
+    TAKES(12, 51, OQ3_STEP_WORDS, OQ3_DONE, 7, OQ3_STEP_TOKEN, 50, 1);
+    TAKES(19, 51, OQ3_STEP_WORDS, OQ3_DONE, 4, OQ3_STEP_LEAVE, 0, 0);
+    TAKES(23, 51, OQ3_STEP_WORDS, OQ3_DONE, 7, OQ3_STEP_TOKEN, 51, 1);
+    TAKES(30, 51, OQ3_STEP_WORDS, OQ3_DONE, 6, OQ3_STEP_ENTER, 40, 0);
+    TAKES(36, 51, OQ3_STEP_WORDS, OQ3_DONE, 7, OQ3_STEP_TOKEN, 50, 1);
+    TAKES(43, 51, OQ3_STEP_WORDS, OQ3_DONE, 4, OQ3_STEP_LEAVE, 0, 0);
+    TAKES(47, 51, OQ3_STEP_WORDS, OQ3_DONE, 4, OQ3_STEP_LEAVE, 0, 0);
+    TAKES(51, 51, OQ3_STEP_WORDS, OQ3_DONE, 0, OQ3_STEP_END, 0, 0);
+    TAKES(51, 51, OQ3_STEP_WORDS + 2, OQ3_DONE, 0, OQ3_STEP_END, 0, 0);
+    TAKES(47, 50, OQ3_STEP_WORDS, OQ3_CUT_RECORD, 0, 0, 0, 0);
+    TAKES(12, 18, OQ3_STEP_WORDS, OQ3_CUT_RECORD, 0, 0, 0, 0);
+    TAKES(1, 51, OQ3_STEP_WORDS, OQ3_CUT_RECORD, 0, 0, 0, 0);
     for (i = 0; i < OQ3_STEP_WORDS; i++) {
         TAKES(0, 51, i, OQ3_NO_ANSWER_ROOM, 0, 0, 0, 0);
         TAKES(51, 51, i, OQ3_NO_ANSWER_ROOM, 0, 0, 0, 0);
@@ -290,15 +297,15 @@ int main(void)
     };
     const uint8_t leave[] = { 0, 0, OQ3_STEP_LEAVE, 0 };
     file(roots, sizeof roots);
-    READS(20, 2, OQ3_BAD_NESTING, 10, 0);
-    READS(10, 2, OQ3_DONE, 10, 2);
-    READS(6, 2, OQ3_BAD_NESTING, 6, 0);
-    TAKES(10, 20, 6, OQ3_DONE, 6, OQ3_STEP_ENTER, 40, 0);
+    READS(20, OQ3_FILE_WORDS, OQ3_BAD_NESTING, 10, 0);
+    READS(10, OQ3_FILE_WORDS, OQ3_DONE, 10, 2);
+    READS(6, OQ3_FILE_WORDS, OQ3_BAD_NESTING, 6, 0);
+    TAKES(10, 20, OQ3_STEP_WORDS, OQ3_DONE, 6, OQ3_STEP_ENTER, 40, 0);
     file(three, sizeof three);
-    READS(30, 2, OQ3_DONE, 30, 6);
+    READS(30, OQ3_FILE_WORDS, OQ3_DONE, 30, 6);
     file(leave, sizeof leave);
-    READS(4, 2, OQ3_BAD_NESTING, 0, 0);
-    TAKES(0, 4, 6, OQ3_DONE, 4, OQ3_STEP_LEAVE, 0, 0);
+    READS(4, OQ3_FILE_WORDS, OQ3_BAD_NESTING, 0, 0);
+    TAKES(0, 4, OQ3_STEP_WORDS, OQ3_DONE, 4, OQ3_STEP_LEAVE, 0, 0);
 
     /* A lone token or error is good, of any kind, code and argument; 12 for what is no record, 11 first where it runs past the end. */
     const uint8_t token_one[] = { 3, 0, OQ3_STEP_TOKEN, 0, 255, 255, 1 }, token_three[] = { 3, 0, OQ3_STEP_TOKEN, 0, 0, 0, 3 };
@@ -311,7 +318,7 @@ int main(void)
     RECORD(token_one, OQ3_DONE);
     RECORD(token_three, OQ3_DONE);
     RECORD(lone_error, OQ3_DONE);
-    TAKES(0, 8, 6, OQ3_DONE, 8, OQ3_STEP_ERROR, 65535, 65534);
+    TAKES(0, 8, OQ3_STEP_WORDS, OQ3_DONE, 8, OQ3_STEP_ERROR, 65535, 65534);
     RECORD(token_none, OQ3_BAD_RECORD);
     RECORD(token_four, OQ3_BAD_RECORD);
     RECORD(no_kind, OQ3_BAD_RECORD);
@@ -328,23 +335,23 @@ int main(void)
     const uint16_t brace[] = { R_CURLY }, resets[] = { RESET_KW, SEMICOLON };
     const uint32_t bare[] = { OQ3_EVENT_START, 0 };
     tokens(brace, 1);
-    IS(oq3_parse(OQ3_ITEM, 0, kinds, 1, joints, 1, room, 100, answer, 3), OQ3_DONE);
-    RESOLVES(OQ3_ROOM_WORDS(answer[1]), 1024, 1, OQ3_DONE, 25);
-    READS(25, 2, OQ3_DONE, 25, 4);
-    TAKES(0, 25, 6, OQ3_DONE, 6, OQ3_STEP_ENTER, ERROR, 0);
+    IS(oq3_parse(OQ3_ITEM, OQ3_MODE_CRATE, kinds, 1, joints, 1, room, 100, answer, OQ3_PARSE_WORDS), OQ3_DONE);
+    RESOLVES(OQ3_ROOM_WORDS(answer[1]), STEPS, OQ3_LIST_WORDS, OQ3_DONE, 25);
+    READS(25, OQ3_FILE_WORDS, OQ3_DONE, 25, 4);
+    TAKES(0, 25, OQ3_STEP_WORDS, OQ3_DONE, 6, OQ3_STEP_ENTER, ERROR, 0);
     tokens(resets, 2);
-    IS(oq3_parse(OQ3_ITEM, 0, kinds, 2, joints, 1, room, 100, answer, 3), OQ3_DONE);
-    RESOLVES(OQ3_ROOM_WORDS(answer[1]), 1024, 1, OQ3_DONE, 40);
-    READS(40, 2, OQ3_BAD_NESTING, 7, 0);
+    IS(oq3_parse(OQ3_ITEM, OQ3_MODE_CRATE, kinds, 2, joints, 1, room, 100, answer, OQ3_PARSE_WORDS), OQ3_DONE);
+    RESOLVES(OQ3_ROOM_WORDS(answer[1]), STEPS, OQ3_LIST_WORDS, OQ3_DONE, 40);
+    READS(40, OQ3_FILE_WORDS, OQ3_BAD_NESTING, 7, 0);
     list(bare, 2);
-    RESOLVES(2, 1024, 1, OQ3_DONE, 0);
-    READS(0, 2, OQ3_BAD_NESTING, 0, 0);
+    RESOLVES(2, STEPS, OQ3_LIST_WORDS, OQ3_DONE, 0);
+    READS(0, OQ3_FILE_WORDS, OQ3_BAD_NESTING, 0, 0);
 
     /* An error is a step, and the largest record. */
-    const uint32_t error[] = { OQ3_EVENT_ERROR + 1, SEMICOLON };
-    const uint8_t error_file[] = { 4, 0, OQ3_STEP_ERROR, 0, 1, 0, SEMICOLON, 0 };
+    const uint32_t error[] = { OQ3_EVENT_ERROR + OQ3_MESSAGE_EXPECTED, SEMICOLON };
+    const uint8_t error_file[] = { 4, 0, OQ3_STEP_ERROR, 0, OQ3_MESSAGE_EXPECTED, 0, SEMICOLON, 0 };
     list(error, 2);
-    RESOLVES(2, OQ3_STEP_BYTES(1), 1, OQ3_DONE, 8);
+    RESOLVES(2, OQ3_STEP_BYTES(1), OQ3_LIST_WORDS, OQ3_DONE, 8);
     is(__LINE__, "the step file", (uint64_t)memcmp(steps, error_file, sizeof error_file), 0);
 
     /* 9: a depth below zero at event 1, one above zero at the end, a distance past the end, words that are no event. */
@@ -352,65 +359,68 @@ int main(void)
     const uint32_t above[] = { OQ3_EVENT_START + 40, 0 };
     const uint32_t beyond[] = { OQ3_EVENT_START, 1 };
     list(below, 4);
-    CHECKS(4, 1, OQ3_FAULTY_LIST, 1);
-    RESOLVES(4, 1024, 1, OQ3_FAULTY_LIST, 1);
+    CHECKS(4, OQ3_LIST_WORDS, OQ3_FAULTY_LIST, 1);
+    RESOLVES(4, STEPS, OQ3_LIST_WORDS, OQ3_FAULTY_LIST, 1);
     list(above, 2);
-    RESOLVES(2, 1024, 1, OQ3_FAULTY_LIST, 1);
+    RESOLVES(2, STEPS, OQ3_LIST_WORDS, OQ3_FAULTY_LIST, 1);
     list(beyond, 2);
-    RESOLVES(2, 1024, 1, OQ3_FAULTY_LIST, 0);
+    RESOLVES(2, STEPS, OQ3_LIST_WORDS, OQ3_FAULTY_LIST, 0);
     list(beyond, 0);
-    CHECKS(2, 1, OQ3_FAULTY_LIST, 0);
-    CHECKS(0, 1, OQ3_DONE, 0);
-    RESOLVES(0, 0, 1, OQ3_DONE, 0);
+    CHECKS(2, OQ3_LIST_WORDS, OQ3_FAULTY_LIST, 0);
+    CHECKS(0, OQ3_LIST_WORDS, OQ3_DONE, 0);
+    RESOLVES(0, 0, OQ3_LIST_WORDS, OQ3_DONE, 0);
 
     /* 2: more than 65,536 events; a word more than 65,536 is a 9. */
-    CHECKS(OQ3_MOST_ROOM + 2, 1, OQ3_TOO_LONG, 0);
-    CHECKS(OQ3_MOST_ROOM + 1, 1, OQ3_FAULTY_LIST, OQ3_MOST_EVENTS);
-    RESOLVES(OQ3_MOST_ROOM + 2, 1024, 1, OQ3_TOO_LONG, 0);
+    CHECKS(OQ3_MOST_ROOM + OQ3_EVENT_WORDS, OQ3_LIST_WORDS, OQ3_TOO_LONG, 0);
+    CHECKS(OQ3_MOST_ROOM + 1, OQ3_LIST_WORDS, OQ3_FAULTY_LIST, OQ3_MOST_EVENTS);
+    RESOLVES(OQ3_MOST_ROOM + OQ3_EVENT_WORDS, STEPS, OQ3_LIST_WORDS, OQ3_TOO_LONG, 0);
 
     /* 1 to 4 in their order, behind 100 and 101. */
     same(IDENT, OQ3_MOST_TOKENS + 1);
-    kinds[7] = EOF_KIND;
-    PARSES(3, 2, OQ3_MOST_TOKENS + 1, 0, 64, 2, OQ3_NO_ANSWER_ROOM, 0, 0, 0);
-    PARSES(3, 2, OQ3_MOST_TOKENS + 1, 0, 64, 3, OQ3_BAD_ENTRY, 0, 0, 0);
-    PARSES(OQ3_ITEM, 2, OQ3_MOST_TOKENS + 1, 0, 64, 3, OQ3_BAD_MODE, 0, 0, 0);
-    PARSES(OQ3_ITEM, 1, OQ3_MOST_TOKENS + 1, 0, 64, 3, OQ3_TOO_LONG, 0, 0, 0);
-    PARSES(OQ3_ITEM, 1, OQ3_MOST_TOKENS, OQ3_JOINT_WORDS(OQ3_MOST_TOKENS) - 1, 64, 3, OQ3_FEW_JOINTS, 0, 0, 0);
-    PARSES(OQ3_ITEM, 1, OQ3_MOST_TOKENS, OQ3_JOINT_WORDS(OQ3_MOST_TOKENS), 64, 3, OQ3_BAD_KIND, 7, 0, 0);
-    PARSES(OQ3_ITEM, 1, 65, 1, 64, 3, OQ3_FEW_JOINTS, 0, 0, 0);
-    PARSES(OQ3_ITEM, 1, 8, 1, 64, 3, OQ3_BAD_KIND, 7, 0, 0);
+    kinds[7] = OQ3_KIND_EOF;
+    PARSES(3, 2, OQ3_MOST_TOKENS + 1, 0, 64, OQ3_PARSE_WORDS - 1, OQ3_NO_ANSWER_ROOM, 0, 0, 0);
+    PARSES(3, 2, OQ3_MOST_TOKENS + 1, 0, 64, OQ3_PARSE_WORDS, OQ3_BAD_ENTRY, 0, 0, 0);
+    PARSES(OQ3_ITEM, 2, OQ3_MOST_TOKENS + 1, 0, 64, OQ3_PARSE_WORDS, OQ3_BAD_MODE, 0, 0, 0);
+    PARSES(OQ3_ITEM, OQ3_MODE_SPECIFICATION, OQ3_MOST_TOKENS + 1, 0, 64, OQ3_PARSE_WORDS, OQ3_TOO_LONG, 0, 0, 0);
+    PARSES(OQ3_ITEM, OQ3_MODE_SPECIFICATION, OQ3_MOST_TOKENS, OQ3_JOINT_WORDS(OQ3_MOST_TOKENS) - 1, 64, OQ3_PARSE_WORDS, OQ3_FEW_JOINTS, 0, 0, 0);
+    PARSES(OQ3_ITEM, OQ3_MODE_SPECIFICATION, OQ3_MOST_TOKENS, OQ3_JOINT_WORDS(OQ3_MOST_TOKENS), 64, OQ3_PARSE_WORDS, OQ3_BAD_KIND, 7, 0, 0);
+    PARSES(OQ3_ITEM, OQ3_MODE_SPECIFICATION, 65, 1, 64, OQ3_PARSE_WORDS, OQ3_FEW_JOINTS, 0, 0, 0);
+    PARSES(OQ3_ITEM, OQ3_MODE_SPECIFICATION, 8, 1, 64, OQ3_PARSE_WORDS, OQ3_BAD_KIND, 7, 0, 0);
 
     /* 5: the room holds the start, and not the event of the token, which is then not consumed. */
     same(IDENT, 1);
-    PARSES(OQ3_EXPRESSION, 0, 1, 1, 2, 3, OQ3_NO_EVENT_ROOM, 0, 0, 0);
+    PARSES(OQ3_EXPRESSION, OQ3_MODE_CRATE, 1, 1, 2, OQ3_PARSE_WORDS, OQ3_NO_EVENT_ROOM, 0, 0, 0);
 
     /* 6: an expression behind 64 minus signs is the 65th unfinished call; behind 63 it is done. */
     same(MINUS, 65);
     kinds[63] = IDENT;
     begin();
-    IS(oq3_parse(OQ3_EXPRESSION, 0, kinds, 64, joints, 1, room, 1000, answer, 3), OQ3_DONE);
-    ended(__LINE__, 1000, 0, 3);
+    IS(oq3_parse(OQ3_EXPRESSION, OQ3_MODE_CRATE, kinds, 64, joints, 1, room, 1000, answer, OQ3_PARSE_WORDS), OQ3_DONE);
+    ended(__LINE__, 1000, 0, OQ3_PARSE_WORDS);
     IS(answer[0], 64);
     same(MINUS, 65);
     kinds[64] = IDENT;
-    PARSES(OQ3_EXPRESSION, 0, 65, 2, 1000, 3, OQ3_TOO_DEEP, 64, 0, 0);
+    PARSES(OQ3_EXPRESSION, OQ3_MODE_CRATE, 65, 2, 1000, OQ3_PARSE_WORDS, OQ3_TOO_DEEP, 64, 0, 0);
 
     /* 7: a typed parameter that is none, in the least room and in one that is an event smaller. */
     const uint16_t spins[] = { DEF_KW, IDENT, L_PAREN, INT_NUMBER };
     tokens(spins, 4);
-    PARSES(OQ3_ITEM, 0, 4, 1, WORDS, 3, OQ3_STUCK, 3, 0, 0);
-    PARSES(OQ3_ITEM, 0, 4, 1, WORDS - 2, 3, OQ3_NO_EVENT_ROOM, 3, 0, 0);
+    PARSES(OQ3_ITEM, OQ3_MODE_CRATE, 4, 1, OQ3_ROOM_WORDS(LEAST), OQ3_PARSE_WORDS, OQ3_STUCK, 3, 0, 0);
+    PARSES(OQ3_ITEM, OQ3_MODE_CRATE, 4, 1, OQ3_ROOM_WORDS(LEAST - 1), OQ3_PARSE_WORDS, OQ3_NO_EVENT_ROOM, 3, 0, 0);
 
     /* 8: `delay` without its `[`. */
     same(DELAY_KW, 1);
-    PARSES(OQ3_SOURCE_FILE, 0, 1, 1, 100, 3, OQ3_STOPPED, 1, 0, 0);
+    PARSES(OQ3_SOURCE_FILE, OQ3_MODE_CRATE, 1, 1, 100, OQ3_PARSE_WORDS, OQ3_STOPPED, 1, 0, 0);
 
-    /* The tags of an event, and the limits. */
+    /* The tags of an event and the limits, in the numbers of docs/RULES.md. */
     IS(OQ3_EVENT_START, 65536);
     IS(OQ3_EVENT_FINISH, 131072);
     IS(OQ3_EVENT_TOKEN, 196608);
     IS(OQ3_EVENT_ERROR, 262144);
+    IS(OQ3_MOST_TOKENS, 8192);
+    IS(OQ3_MOST_EVENTS, 65536);
     IS(OQ3_MOST_ROOM, OQ3_ROOM_WORDS(OQ3_MOST_EVENTS));
+    IS(OQ3_KIND_TOMBSTONE, 0);
     IS(OQ3_STEP_BYTES(OQ3_MOST_EVENTS), OQ3_MOST_STEPS);
 
     if (!failed) {

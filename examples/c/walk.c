@@ -1,26 +1,28 @@
 /*
  * Parses a small program, resolves it, reads its step file and prints the tree; then shows a refusal. The tokens come from a lexer that is
- * not part of the library: here they are written out, with the numbers of docs/KINDS.md. sequencer.c reads a step file that another program
- * has made.
+ * not part of the library: here they are written out, with the names of oq3_kinds.h. sequencer.c reads a step file that another program has
+ * made.
  */
 #include <stdio.h>
 
 #include "oq3.h"
+#include "oq3_kinds.h"
 
-#define TOKENS 23
 #define EVENTS 128 /* more than this program needs; OQ3_MOST_EVENTS is enough for all */
-
-enum {
-    SEMICOLON = 3, COMMA = 4, L_BRACK = 9, R_BRACK = 10, QUBIT_KW = 90, INT_NUMBER = 99, IDENT = 115, SOURCE_FILE = 121,
-    GATE_CALL_EXPR = 153, QUANTUM_DECLARATION_STATEMENT = 196
-};
+#define SMALL 10   /* fewer than it needs */
 
 /* A Bell pair. */
-static const uint16_t kinds[TOKENS] = {
-    QUBIT_KW, L_BRACK, INT_NUMBER, R_BRACK, IDENT, SEMICOLON,                                                /* qubit[2] q; */
-    IDENT, IDENT, L_BRACK, INT_NUMBER, R_BRACK, SEMICOLON,                                                   /* h q[0]; */
-    IDENT, IDENT, L_BRACK, INT_NUMBER, R_BRACK, COMMA, IDENT, L_BRACK, INT_NUMBER, R_BRACK, SEMICOLON        /* cx q[0], q[1]; */
+static const uint16_t kinds[] = {
+    /* qubit[2] q; */
+    OQ3_KIND_QUBIT_KW, OQ3_KIND_L_BRACK, OQ3_KIND_INT_NUMBER, OQ3_KIND_R_BRACK, OQ3_KIND_IDENT, OQ3_KIND_SEMICOLON,
+    /* h q[0]; */
+    OQ3_KIND_IDENT, OQ3_KIND_IDENT, OQ3_KIND_L_BRACK, OQ3_KIND_INT_NUMBER, OQ3_KIND_R_BRACK, OQ3_KIND_SEMICOLON,
+    /* cx q[0], q[1]; */
+    OQ3_KIND_IDENT, OQ3_KIND_IDENT, OQ3_KIND_L_BRACK, OQ3_KIND_INT_NUMBER, OQ3_KIND_R_BRACK, OQ3_KIND_COMMA,
+    OQ3_KIND_IDENT, OQ3_KIND_L_BRACK, OQ3_KIND_INT_NUMBER, OQ3_KIND_R_BRACK, OQ3_KIND_SEMICOLON
 };
+
+#define TOKENS (sizeof kinds / sizeof *kinds)
 
 /* No two of these tokens are glued, as the halves of == are, so no bit is needed. */
 static const uint64_t joints[OQ3_JOINT_WORDS(TOKENS)] = { 0 };
@@ -28,21 +30,21 @@ static const uint64_t joints[OQ3_JOINT_WORDS(TOKENS)] = { 0 };
 /* The rooms: static here, so nothing is allocated. */
 static uint32_t room[OQ3_ROOM_WORDS(EVENTS)];
 static uint8_t steps[OQ3_STEP_BYTES(EVENTS)];
-static uint64_t answer[3];
+static uint64_t answer[OQ3_PARSE_WORDS];
 
 static const char *name_of(unsigned kind)
 {
     switch (kind) {
-    case SEMICOLON: return " ;";
-    case COMMA: return " ,";
-    case L_BRACK: return " [";
-    case R_BRACK: return " ]";
-    case QUBIT_KW: return " qubit";
-    case INT_NUMBER: return " integer";
-    case IDENT: return " identifier";
-    case SOURCE_FILE: return " source file";
-    case GATE_CALL_EXPR: return " gate call";
-    case QUANTUM_DECLARATION_STATEMENT: return " qubit declaration";
+    case OQ3_KIND_SEMICOLON: return " ;";
+    case OQ3_KIND_COMMA: return " ,";
+    case OQ3_KIND_L_BRACK: return " [";
+    case OQ3_KIND_R_BRACK: return " ]";
+    case OQ3_KIND_QUBIT_KW: return " qubit";
+    case OQ3_KIND_INT_NUMBER: return " integer";
+    case OQ3_KIND_IDENT: return " identifier";
+    case OQ3_KIND_SOURCE_FILE: return " source file";
+    case OQ3_KIND_GATE_CALL_EXPR: return " gate call";
+    case OQ3_KIND_QUANTUM_DECLARATION_STATEMENT: return " qubit declaration";
     default: return "";
     }
 }
@@ -50,11 +52,11 @@ static const char *name_of(unsigned kind)
 /* Prints a step file as an indented tree. Returns the raw tokens that its steps cover, or -1 where the file is not good. */
 static long walk(const uint8_t *file, size_t length)
 {
-    uint64_t step[OQ3_STEP_WORDS];
+    uint64_t whole[OQ3_FILE_WORDS], step[OQ3_STEP_WORDS];
     size_t at = 0;
     long tokens = 0;
     int depth = 0;
-    if (oq3_read_file(file, length, answer, 3) != OQ3_DONE) {
+    if (oq3_read_file(file, length, whole, OQ3_FILE_WORDS) != OQ3_DONE) {
         return -1;
     }
     while (oq3_read_step(file + at, length - at, step, OQ3_STEP_WORDS) == OQ3_DONE && step[1] != OQ3_STEP_END) {
@@ -77,7 +79,8 @@ static long walk(const uint8_t *file, size_t length)
 
 int main(void)
 {
-    uint32_t said = oq3_parse(OQ3_SOURCE_FILE, OQ3_MODE_CRATE, kinds, TOKENS, joints, OQ3_JOINT_WORDS(TOKENS), room, OQ3_ROOM_WORDS(EVENTS), answer, 3);
+    uint32_t said = oq3_parse(OQ3_SOURCE_FILE, OQ3_MODE_CRATE, kinds, TOKENS, joints, OQ3_JOINT_WORDS(TOKENS), room, OQ3_ROOM_WORDS(EVENTS),
+                              answer, OQ3_PARSE_WORDS);
     if (said != OQ3_DONE) {
         printf("the parse is refused with %u at token %lu\n", (unsigned)said, (unsigned long)answer[0]);
         return 1;
@@ -86,22 +89,23 @@ int main(void)
 
     /* The list is the room's first words: two for each event. */
     size_t words = OQ3_ROOM_WORDS(answer[1]);
-    said = oq3_resolve(room, words, steps, sizeof steps, answer, 3);
+    said = oq3_resolve(room, words, steps, sizeof steps, answer, OQ3_PARSE_WORDS);
     if (said != OQ3_DONE) {
         printf("the resolution is refused with %u\n", (unsigned)said);
         return 1;
     }
-    if (walk(steps, (size_t)answer[0]) != TOKENS) {
+    if (walk(steps, (size_t)answer[0]) != (long)TOKENS) {
         printf("the steps do not cover the tokens\n");
         return 1;
     }
 
-    /* A room of 10 events is too small. Nothing is handed out, the room is zero, and the answer says how far the parse came. */
-    said = oq3_parse(OQ3_SOURCE_FILE, OQ3_MODE_CRATE, kinds, TOKENS, joints, OQ3_JOINT_WORDS(TOKENS), room, 20, answer, 3);
+    /* A small room. Nothing is handed out, the room is zero, and the answer says how far the parse came. */
+    said = oq3_parse(OQ3_SOURCE_FILE, OQ3_MODE_CRATE, kinds, TOKENS, joints, OQ3_JOINT_WORDS(TOKENS), room, OQ3_ROOM_WORDS(SMALL), answer,
+                     OQ3_PARSE_WORDS);
     if (said != OQ3_NO_EVENT_ROOM) {
-        printf("a room of 10 events was expected to be refused, not told with %u\n", (unsigned)said);
+        printf("a room of %d events was expected to be refused, not told with %u\n", SMALL, (unsigned)said);
         return 1;
     }
-    printf("a room of 10 events: refused with %u after %lu tokens\n", (unsigned)said, (unsigned long)answer[0]);
+    printf("a room of %d events: refused with %u after %lu tokens\n", SMALL, (unsigned)said, (unsigned long)answer[0]);
     return 0;
 }
