@@ -9,8 +9,8 @@
  * answers depends on what it is lent. docs/RULES.md says what each does, to the last word; oq3_kinds.h has the kinds and the error codes by
  * name, docs/KINDS.md and docs/MESSAGES.md with what they are.
  *
- * Nothing checks this header against the source (crates/oq3/src/lib.rt, crates/oq3_read/src/lib.rt): it is kept by hand, and
- * examples/c/test.c runs it.
+ * Nothing checks the calls of this header against the source (crates/oq3/src/lib.rt, crates/oq3_read/src/lib.rt): they are kept by hand, and
+ * examples/c/test.c runs them.
  *
  * What a caller owes, which no call can test:
  *   - A pointer is valid for as many elements as the length behind it says, and aligned for its type. With a length of 0 it is still
@@ -33,24 +33,46 @@
 extern "C" {
 #endif
 
-/* What a call returns: done, or why it is refused. The place is the first word of the answer room. "consumed" are the tokens consumed. */
+/*
+ * What a call returns: done, or why it is refused. The place is the first word of the answer room. Where the crate, oq3_parser 0.7.0, panics
+ * stands in docs/PANICS.md. Written by tools/refusals from docs/RULES.md, section 3; ./check compares the two.
+ */
 enum {
-    OQ3_DONE = 0,            /* place: oq3_parse: consumed; oq3_check: events; oq3_resolve: bytes written; oq3_read_file: the file's length */
-    OQ3_BAD_MODE = 1,        /* the mode is neither 0 nor 1; place 0 */
-    OQ3_TOO_LONG = 2,        /* more than 8,192 tokens, or a list of more than 65,536 events; place 0 */
-    OQ3_FEW_JOINTS = 3,      /* fewer joint words than tokens / 64, rounded up; place 0 */
-    OQ3_BAD_KIND = 4,        /* a kind that is not permitted; place: the first such token */
-    OQ3_NO_EVENT_ROOM = 5,   /* one more event than the room holds; place: consumed */
-    OQ3_TOO_DEEP = 6,        /* nested deeper than 64 counted calls (docs/COUNTED.md); place: consumed */
-    OQ3_STUCK = 7,           /* the 10,001st lookup since a token was consumed; place: consumed */
-    OQ3_STOPPED = 8,         /* where oq3_parser 0.7.0 panics (docs/PANICS.md), or a source file would leave a token; place: consumed */
-    OQ3_FAULTY_LIST = 9,     /* the list is not well formed; place: the first faulty event */
-    OQ3_NO_STEP_ROOM = 10,   /* the step room is too small; place: the bytes needed */
-    OQ3_CUT_RECORD = 11,     /* a record runs past the end of the file; place: the byte where it begins */
-    OQ3_BAD_RECORD = 12,     /* no such record kind, another length than it has, or a raw count that is not 1 to 3; place: as for 11 */
-    OQ3_BAD_NESTING = 13,    /* the records are not those of one tree; place: the first that is not, or the file's length (oq3_read_file) */
-    OQ3_NO_ANSWER_ROOM = 100, /* the answer room is too short: nothing is read or written, and there is no place */
-    OQ3_BAD_ENTRY = 101      /* oq3_parse: the entry is none of the three; place 0 */
+    /* done; place: a parse: tokens consumed. The check: events. Resolution: bytes written. A step file: its length */
+    OQ3_DONE = 0,
+    /* the mode is neither 0 nor 1; place: 0 */
+    OQ3_BAD_MODE = 1,
+    /* more than 8,192 tokens; a list of more than 65,536 events; place: 0 */
+    OQ3_TOO_LONG = 2,
+    /* fewer joint words than tokens / 64, rounded up; place: 0 */
+    OQ3_FEW_JOINTS = 3,
+    /* a kind that is not permitted; place: the first such token */
+    OQ3_BAD_KIND = 4,
+    /* one more event than the room holds, at any moment of the run; place: tokens consumed */
+    OQ3_NO_EVENT_ROOM = 5,
+    /* a counted call (docs/COUNTED.md) begins while 64 are unfinished; place: tokens consumed */
+    OQ3_TOO_DEEP = 6,
+    /* the 10,001st lookup since a token was consumed; place: tokens consumed */
+    OQ3_STUCK = 7,
+    /* where the crate's release build panics, its step limit aside; a source-file run that would end with a token left; place: tokens
+     * consumed */
+    OQ3_STOPPED = 8,
+    /* the list is not well formed; place: the first faulty event */
+    OQ3_FAULTY_LIST = 9,
+    /* the step room is too small; place: bytes needed */
+    OQ3_NO_STEP_ROOM = 10,
+    /* a record of a step file runs past the end; place: the first byte of that record */
+    OQ3_CUT_RECORD = 11,
+    /* a record of a step file is unsound: an unknown kind, another length than its kind has, or a raw count outside 1 to 3; place: the
+     * first byte of that record */
+    OQ3_BAD_RECORD = 12,
+    /* the records of a step file do not nest, or there is none; place: the first byte of the first record that breaks the nesting, or
+     * the file's length where that is seen at the end */
+    OQ3_BAD_NESTING = 13,
+    /* from C: the answer room is too short; place: none */
+    OQ3_NO_ANSWER_ROOM = 100,
+    /* from C: the entry of a parse is none of the three; place: 0 */
+    OQ3_BAD_ENTRY = 101
 };
 
 /* Where a parse begins. */
