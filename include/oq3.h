@@ -116,8 +116,8 @@ enum {
  *   room    the event room, two words for each event, of any contents; an odd last word holds none
  *   answer  at least OQ3_PARSE_WORDS words: the place, the events and the lookups. A refusal has 0 for the last two. Further words stay
  *
- * Done, the events are the first OQ3_ROOM_WORDS(answer[1]) words of the room, and every word behind them is 0. Refused with 5 to 8 the whole room is 0.
- * Refused with 1 to 4, 100 or 101 it is untouched.
+ * Done, the events are the first OQ3_ROOM_WORDS(answer[1]) words of the room, and every word behind them is 0. Refused with 5 to 8 the whole
+ * room is 0. Refused with 1 to 4, 100 or 101 it is untouched.
  *
  * How large a room? No bound by the number of tokens is known. OQ3_MOST_ROOM words are always enough: in a room of that size a 5 means that
  * the run passes the limit of 65,536 events itself, and no larger room helps. A smaller room is never wrong: what does not fit is refused
