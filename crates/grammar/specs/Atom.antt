@@ -84,7 +84,7 @@ invModifier = do
 unfoldable pub noArgument : ℕ → Acts (Unit {0})
 noArgument kw = when (eqb kw POW-KW) (fail EXPECTING-ARGUMENT-TO-POW-GATE-MODIFIER)
 
--- fn tuple_expr, line 266: a comma at its begin; line 280: whether there was a comma, after an element; line 284: its end
+-- inside fn tuple_expr, line 266: a comma at its begin; line 278: whether there was a comma, after an element; line 283: its end
 unfoldable pub tupleComma : Acts Bool
 tupleComma = do
   comma ← eat COMMA
@@ -106,7 +106,7 @@ tupleEnd m saw comma = do
   expect R-PAREN
   complete m (tupleKind saw comma)
 
--- fn array_expr, line 310: what follows an element, and its end
+-- inside fn array_expr, line 311: what follows an element; line 320: its end
 unfoldable pub firstSemicolon : Bool → Acts Bool
 firstSemicolon first = cond first (eat SEMICOLON) (done false)
 
@@ -154,7 +154,7 @@ module _ (deeper : Counted) where
     argListGateCallQubits deeper
     complete m GATE-CALL-EXPR
 
-  -- an arm of fn modified_gate_call_expr, line 160, 176 or 190: `pow` must have an argument, `ctrl` and `negctrl` may
+  -- an arm of fn modified_gate_call_expr, line 159, 175 or 189: `pow` must have an argument, `ctrl` and `negctrl` may
   unfoldable pub modifier : ℕ → ℕ → Acts (Unit {0})
   modifier kw node = do
     m1 ← start

@@ -37,7 +37,7 @@ unfoldable pub marker : Mark → Acts ℕ
 marker (Given m) = done m
 marker Fresh = start
 
--- the first test of fn expr_bp, line 226: `p.nth(1)` is looked up only at a classical type that begins no expression
+-- the first test of fn expr_bp, line 228: `p.nth(1)` is looked up only at a classical type that begins no expression
 unfoldable pub lacksExpr : Acts Bool
 lacksExpr = do
   first ← atTs EXPR-FIRST
@@ -47,7 +47,7 @@ lacksExpr = do
       k ← nth 1
       done (not (oneOf CAST-NEXT k))) (done true))
 
--- the end of a round of fn expr_bp, line 268: an assignment has rules of its own
+-- the end of a round of fn expr_bp, line 269: an assignment has rules of its own
 unfoldable pub assigned : Bool → Acts (Unit {0})
 assigned prefer = when prefer (just (expect SEMICOLON))
 
@@ -99,7 +99,7 @@ stmtEnd cm block =
         noSemicolon block semi
         just (complete m EXPR-STMT)))
 
--- the test of fn designator, line 474
+-- the test of fn designator, line 471
 unfoldable pub literalDesignator : Acts (Unit {0})
 literalDesignator = do
   k ← current
@@ -319,7 +319,7 @@ module _ (deeper : Counted) where
     repeats indexedIdentifierRound tt
     complete m INDEXED-IDENTIFIER
 
-  -- the arm of fn postfix_expr, line 331, at `[`
+  -- the arm of fn postfix_expr, line 333, at `[`
   unfoldable pub indexed : Completed → Acts Completed
   indexed lhs =
       cond (eqb (lhs .kind) IDENTIFIER) (indexedIdentifier lhs) (do

@@ -114,7 +114,7 @@ delimited bra ket consume delim first parser = do
   repeats (delimitedRound ket delim first parser) tt
   when consume (just (expect ket))
 
--- the error of opt_ret_type, line 107, where no scalar type follows
+-- the error of fn opt_ret_type, line 111, where no scalar type follows
 unfoldable pub scalarReturn : Acts (Unit {0})
 scalarReturn = do
   k ← current

@@ -158,7 +158,7 @@ module _ (deeper : Counted) where
     tryBlockExpr deeper
     just (complete m WHILE-STMT)
 
-  -- the end of fn for_stmt, line 178
+  -- the end of fn for_stmt, line 179
   unfoldable pub forRest : ℕ → ℕ → Acts (Unit {0})
   forRest m m1 = do
     complete m1 FOR-ITERABLE
@@ -212,7 +212,7 @@ module _ (deeper : Counted) where
     tryBlockExpr deeper
     just (complete m GATE)
 
-  -- the end of fn defcal_, line 273, and of fn def_stmt, line 350
+  -- the end of fn defcal_, line 274, and of fn def_stmt, line 352
   unfoldable pub signature : ℕ → ℕ → Acts (Unit {0})
   signature m node = do
     optRetType deeper

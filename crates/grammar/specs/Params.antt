@@ -60,7 +60,7 @@ atListEnd sh = do
 abbrev pub endsHere : Env → Parser → Shape → Bool
 endsHere e p sh = cond (sees e p (sh .end)) true (sees e p (sh .end2))
 
--- the test of its loop, line 77, and what it tells
+-- the test of its loop, line 76, and what it tells
 unfoldable pub listGoes : Shape → Acts Bool
 listGoes sh = do
   end ← at EOF
@@ -71,13 +71,13 @@ listGoes sh = do
 abbrev pub goesHere : Env → Parser → Shape → Bool
 goesHere e p sh = cond (sees e p EOF) false (not (endsHere e p sh))
 
--- whether a parameter begins here, line 79
+-- whether a parameter begins here, line 78
 unfoldable pub paramAhead : Acts Bool
 paramAhead = do
   k ← current
   cond (oneOf TYPES k) (done true) (atTs PARAM-FIRST)
 
--- after a parameter, line 101: whether another one is to follow
+-- after a parameter, line 102: whether another one is to follow
 unfoldable pub listNext : Shape → Acts Bool
 listNext sh = do
   end ← atListEnd sh
@@ -129,7 +129,7 @@ module _ (deeper : Counted) where
             abandon m
             done false))
 
-  -- one parameter, line 84: whether one was found
+  -- one parameter of fn _param_list_openqasm, line 83: whether one was found
   unfoldable pub foundParam : How → ℕ → Acts Bool
   foundParam Expr m = do
     abandon m
