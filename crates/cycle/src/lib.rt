@@ -1,5 +1,5 @@
 // The productions that call one another, in one cycle: src/grammar.rs and the files below it, in the crate's order. Each counted call has
-// one call less to spare, `left`; docs/DECISIONS.md says which function of the crate is where, and why the names are short.
+// one call less to spare, `left`; docs/ARCHITECTURE.md says which function of the crate is where, docs/DECISIONS.md why the names are short.
 pub mod entry;
 
 use grammar::Got;
