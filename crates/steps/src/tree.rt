@@ -73,9 +73,9 @@ fn put_message(out: &mut [u8], at: usize, code: u64, argument: u64) -> usize {
 fn found(kinds: &[u16], place: u64) -> u16 {
     let i = place as usize;
     if i > kinds.len() {
-        return reader::first_kind(&kinds[0..0]);
+        return lookahead::first_kind(&kinds[0..0]);
     }
-    reader::first_kind(&kinds[i..])
+    lookahead::first_kind(&kinds[i..])
 }
 
 // An error, with the tokens passed before it and the kind that stands there.

@@ -1,8 +1,8 @@
 -- `kind_at` meets its contract: a run that is not refused sees the kind. Assumes nothing.
 use borrow.Author.Needs.{needs}
 use Rattle.runtime.specs.Input.{seen}
-use Rattle.reader.proofs.kind_at.Statement.{statement}
-use Rattle.reader.proofs.kind_at.Tie as tie
+use Rattle.lookahead.proofs.kind_at.Statement.{statement}
+use Rattle.lookahead.proofs.kind_at.Tie as tie
 
 kind-requires : tie.Need-kind-requires
 kind-requires c κs = search needs
