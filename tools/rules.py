@@ -6,6 +6,16 @@ TOP = os.path.dirname(os.path.dirname(os.path.abspath(__file__)))
 COLUMNS = ["number", "condition", "place", "lent room afterwards", "in C"]
 
 
+def told():
+    """What the program steps says of each number from 0 to 10: the last table of section 10."""
+    with open(os.path.join(TOP, "docs/RULES.md")) as f:
+        section = f.read().split("\n## ")[10]
+    assert section.startswith("10. "), section[:20]
+    rows = dict(re.findall(r"^\| (\d+) \| (.*) \|$", section, re.M))
+    assert list(rows) == [str(n) for n in range(1, 11)], list(rows)
+    return ["done"] + list(rows.values())
+
+
 def refusals():
     """Its rows: the number and the other four columns, as they stand there. It must have these columns, and numbers that rise."""
     with open(os.path.join(TOP, "docs/RULES.md")) as f:

@@ -27,6 +27,7 @@ use names::NUMBERS;
 use read::Asked;
 use read::read;
 use table::put_entry;
+use tree::put_found;
 use tree::put_place;
 use tree::put_tree;
 ghost use mathlib.Core.Path.{_≡_};
@@ -46,12 +47,24 @@ fn steps_room() -> [u8; 524288]
     [0; 524288]
 }
 
-fn put_refused(out: &mut [u8], number: u32, place: u64) -> usize {
+// What stands at the place of a refusal, where that is a token's.
+fn put_here(out: &mut [u8], at: usize, number: u32, place: u64, kinds: &[u16]) -> usize {
+    if number < 4 {
+        return at;
+    }
+    if number > 8 {
+        return at;
+    }
+    put_found(out, at, kinds, place)
+}
+
+fn put_refused(out: &mut [u8], number: u32, place: u64, kinds: &[u16]) -> usize {
     let n = put_text(out, 0, b"refused ");
     let n = put_number(out, n, number as u64);
     let n = put_place(out, n, place);
     let n = put_text(out, n, b": ");
     let n = put_entry(out, n, &NUMBERS, number as u64);
+    let n = put_here(out, n, number, place, kinds);
     put(out, n, b'\n')
 }
 
@@ -87,7 +100,7 @@ fn put_steps(
     let r = events::resolve(words, steps);
     let k = r.place();
     if r.code() != 0 {
-        return put_refused(out, r.code(), k as u64);
+        return put_refused(out, r.code(), k as u64, kinds);
     }
     if k > steps.len() {
         return 0;
@@ -99,7 +112,7 @@ fn put_steps(
 // What an answer comes to as text.
 fn put_answer(out: &mut [u8], room: &mut [u32], a: parse::Answer, kinds: &[u16]) -> usize {
     if a.code != 0 {
-        return put_refused(out, a.code, a.place as u64);
+        return put_refused(out, a.code, a.place as u64, kinds);
     }
     let k = EVENT_WORDS * a.events as usize;
     if k > room.len() {

@@ -250,17 +250,17 @@ pub const MESSAGES: [u8; 1265] = *b"\
     expected a path to a file\n\
 ";
 
-// What the number of an answer says (docs/RULES.md, section 3).
-pub const NUMBERS: [u8; 502] = *b"\
+// What is said of the number of an answer (docs/RULES.md, section 10).
+pub const NUMBERS: [u8; 373] = *b"\
     done\n\
-    the mode is neither 0 nor 1\n\
-    more than 8,192 tokens; a list of more than 65,536 events\n\
-    fewer joint words than tokens / 64, rounded up\n\
-    a kind that is not permitted\n\
-    one more event than the room holds, at any moment of the run\n\
-    a counted call (COUNTED.md) begins while 64 are unfinished\n\
-    the 10,001st lookup since a token was consumed\n\
-    where the crate's release build panics, its step limit aside; a source-file run that would end with a token left\n\
-    the list is not well formed\n\
-    the step room is too small\n\
+    there is no such mode\n\
+    the program has more than 8,192 tokens\n\
+    joint bits are missing\n\
+    no token of a program has this kind\n\
+    the program makes more than 65,536 events\n\
+    the program is nested deeper than 64 levels here\n\
+    the parser would look at this place without end\n\
+    what must stand here does not, and there is no message for it\n\
+    the events make no tree\n\
+    the steps find no room\n\
 ";

@@ -78,6 +78,12 @@ fn found(kinds: &[u16], place: u64) -> u16 {
     lookahead::first_kind(&kinds[i..])
 }
 
+// What stands at a place.
+pub fn put_found(out: &mut [u8], at: usize, kinds: &[u16], place: u64) -> usize {
+    let n = put_text(out, at, b", found ");
+    put_kind(out, n, found(kinds, place) as u64)
+}
+
 // An error, with the tokens passed before it and the kind that stands there.
 fn put_error(
     out: &mut [u8],
@@ -92,8 +98,7 @@ fn put_error(
     let n = put_place(out, n, place);
     let n = put_text(out, n, b": ");
     let n = put_message(out, n, code, argument);
-    let n = put_text(out, n, b", found ");
-    put_kind(out, n, found(kinds, place) as u64)
+    put_found(out, n, kinds, place)
 }
 
 // What stands in the line of a step; a leave has no line.
