@@ -23,9 +23,6 @@ pub const TOKEN: u32 = 196611;
 
 pub const ERROR: u32 = 262148;
 
-// No record has more bytes than these.
-pub const STEP_BYTES: usize = 8;
-
 // The bytes of a step's record.
 pub fn size(s: Step) -> usize
     ensures { λ r. ⌜ r ≡ length (recordOf s) ⌝ }
