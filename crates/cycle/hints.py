@@ -5,8 +5,9 @@ like("grammar")
 MODULES = MODULES + [
     ("Rattle.cycle.proofs.Depth", [
         "exprBp-deeper", "stmt-deeper", "typeSpec-deeper", "complexTypeSpec-deeper", "ifStmt-deeper", "expressionList-deeper",
-        "exprBp-spends", "stmt-spends", "item-spends", "index-spends", "ahead-spends", "op-spends", "op-left", "op-next",
-        "falls-after", "falls-after-peeks", "left-list", "left-bound"]),
+        "falls-after", "falls-after-peeks"]),
+    ("Rattle.grammar.proofs.Spends", [
+        "exprBp-spends", "stmt-spends", "item-spends", "index-spends", "ahead-spends", "op-spends", "op-left", "op-next", "left-list"]),
     ("Rattle.kinds.specs.Kinds", ["L-BRACK", "R-PAREN", "COMMA", "CASE-KW"]),
     ("Rattle.kinds.specs.Sets", ["EXPR-FIRST"]),
 ]
@@ -37,7 +38,7 @@ HINTS = {
                       "falls _ _ _ (exprBp-spends _ _ _ _ _) (omega (arith, left-asked ($expect3 .result .p) (sym ($is-refused .ensures) ∙ $test), spent-does _ _ _ ($expect3 .ensures), spent-does _ _ _ ($expr-bp .ensures))) ($expr-bp .ensures)",
                       counted="typeSpec-deeper _ _ _ _", open=["E.typeSpec", "E.arrayTypeSpec", "E.arrayTypeSpecRound"], after=["complete"]),
     "cplx": dict(counted="complexTypeSpec-deeper _ _ _ _", open=["E.complexTypeSpec"]),
-    "stmt": dict(counted="stmt-deeper _ _ _ _", open=["E.stmt", "E.letStmt"]),
+    "stmt": dict(counted="stmt-deeper _ _ _ _", open=["E.stmt", "E.letStmt", "E.noItem"]),
     "ifs": dict(counted="ifStmt-deeper _ _ _ _ _", open=["I.ifStmt"]),
     "els": dict(counted="expressionList-deeper _ _ _ _", open=["P.expressionList"]),
     "post": loop("block allow q₀ cm₀ blocky₀ calls₀ room q cm blocky calls", f"E.postfixExprRound {C} (later {C})", "(cm₀, blocky₀, calls₀)", "(cm, blocky, calls)", "current", LOOK_FALLS.format("$test"),
@@ -51,7 +52,7 @@ HINTS = {
                  open=["G.delimited", "G.delimitedRound"], after=["args_end"]),
     "list": dict(over="kinds joints room₀ mode left shape how m q₀ n₀ room q n", inv=ran(f"P.paramListOpenqasmRound {C} shape", "n₀", "n") + " × (n + acts.left q ≤ 81938195)", measure="acts.left q", call="param_ahead",
                  falls="falls-after-peeks _ _ _ _ ahead-spends (left-list _ _ ($shape-of .result) (sym ($list-goes .ensures) ∙ $if1)) (spent-steps _ _ ($start .ensures)) ($param-ahead .ensures)",
-                 holds="omega (arith, left-bound ($list-open .result .p))", again="omega (arith, $less, $loop .inv .2)",
+                 holds="omega (arith, most-left ($list-open .result .p))", again="omega (arith, $less, $loop .inv .2)",
                  answers={"add-n": "record { fits = omega (arith, $loop .inv .2) }"},
                  open=["P.paramListOpenqasmRound"], after=["list_end"]),
     "par": dict(open=["P.paramTyped", "E.exprOrRangeExpr"], flat=["match"], plain=["returns-5"]),
@@ -76,5 +77,5 @@ HINTS = {
     "opt": dict(open=["I.qubitDeclarationStmt", "E.qubitTypeSpec", "I.whileStmt", "I.cal"], flat=["key"]),
     "more": dict(open=["I.resetStmt", "I.barrier", "I.aliasStmt", "I.delayStmt", "P.argListGateCallQubits"], flat=["key"]),
     # entry.rt
-    "item_at": dict(open=["oneOf"]),
+    "item_at": dict(open=["I.afterItem", "I.unmatched", "oneOf"]),
 }

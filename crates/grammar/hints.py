@@ -14,9 +14,9 @@ MODULES = [
     ("mathlib.Core.Bool", ["false"]),
     ("mathlib.Core.Path", ["_≡_", "sym", "_∙_", "refl"]),
     ("mathlib.Core.Logic", ["inl", "inr"]),
-    ("Rattle.runtime.specs.Input", ["env"]),
+    ("Rattle.input.specs.Input", ["env"]),
     ("Rattle.runtime.specs.State", ["view"]),
-    ("Rattle.grammar.specs.Operators", ["tableOf"]),
+    ("Rattle.operators.specs.Operators", ["tableOf"]),
     ("Rattle.grammar.specs.Entry", ["counted", "later"]),
     ("Rattle.kinds.specs.Membership", ["oneOf"]),
     ("Prim.Native.Nat", ["ℕ", "_+_", "_≤_", "_<_"]),
@@ -28,7 +28,7 @@ ALIASES = [
     ("P", "Rattle.grammar.specs.Params"),
     ("A", "Rattle.grammar.specs.Atom"),
     ("I", "Rattle.grammar.specs.Items"),
-    ("O", "Rattle.grammar.specs.Operators"),
+    ("O", "Rattle.operators.specs.Operators"),
     ("T", "Rattle.grammar.specs.Entry"),
 ]
 TOLD = [

@@ -1,32 +1,23 @@
--- A counted call at a depth: its body one level down where a call is left, and its refusal where none is. What spends, and where
--- something is left. Assumes nothing.
-use mathlib.Core.Path.{_≡_, refl, subst, ap, sym, _∙_}
-use mathlib.Core.Bool.{Bool, true, false}
+-- A counted call at a depth: its body one level down where a call is left, and its refusal where none is; and what falls after a call.
+-- Assumes nothing.
+use mathlib.Core.Path.{_≡_, refl, subst}
+use mathlib.Core.Bool.{Bool}
 use mathlib.Core.List.{[]}
-use Prim.Native.Nat.{ℕ, zero, suc, pred, _+_, _-_, _≤_, _<_}
+use Prim.Native.Nat.{ℕ, zero, suc, pred, _-_, _≤_, _<_}
 use native.Mathlib.Numerals.{sub-one}
 use native.Mathlib.Omega.{arith}
-use Rattle.kinds.specs.Kinds.{EOF, DOT3, SEMICOLON, LET-KW, L-BRACK}
 use Rattle.runtime.specs.declared.parser.Parser.{Parser}
-use Rattle.runtime.specs.declared.parser.Stop.the-variants.{Deep}
-use Rattle.runtime.specs.Input.{Env}
-use Rattle.runtime.specs.State.{St, view, live, looked}
-use Rattle.runtime.specs.Acts as acts
-use Rattle.runtime.specs.Acts.{Acts, Does, Peeks, run, left, nth, at, start, atTs, sees, _>>=_, kindAhead}
-use Rattle.laws.proofs.Tests.{by-test}
-use Rattle.runtime.proofs.Laws.{Spends, peeks, spends-nth, spends-at-ts, spends-bump, spends-stop, spends-eat, spends-cond, spends-first, spends-rest, spends-opening, left-unless, left-on, unseen, run-bind}
+use Rattle.input.specs.Input.{Env}
+use Rattle.runtime.specs.State.{St, view}
+use Rattle.runtime.specs.Acts.{Acts, Does, Peeks, left}
+use Rattle.runtime.proofs.Laws.{Spends, peeks}
 use Rattle.grammar.specs.declared.Mark.{Mark}
 use Rattle.grammar.specs.declared.Got.{Got}
-use Rattle.grammar.specs.declared.expressions.Op.{Op}
-use Rattle.grammar.specs.declared.params.Shape.{Shape}
-use Rattle.grammar.specs.Grammar.{Counted}
-use Rattle.grammar.specs.Operators.{Table, tableOf, currentOp, arms, armOf}
+use Rattle.operators.specs.Operators.{Table}
 use Rattle.grammar.specs.Expressions as E
 use Rattle.grammar.specs.Params as P
-use Rattle.grammar.specs.Atom as A
 use Rattle.grammar.specs.Items as I
 use Rattle.grammar.specs.Entry.{counted, later}
-use Rattle.grammar.proofs.Tables.{all-fair}
 
 one-down : (ops : Table) (n : ℕ) → (n ≡ 0 → ⊥) → counted ops n ≡ record { exprBp = E.exprBp (counted ops (n - 1)) (later (counted ops (n - 1))) ops; stmt = E.stmt (counted ops (n - 1)) (later (counted ops (n - 1))); typeSpec = E.typeSpec (counted ops (n - 1)); complexTypeSpec = E.complexTypeSpec (counted ops (n - 1)); ifStmt = I.ifStmt (counted ops (n - 1)); expressionList = P.expressionList (counted ops (n - 1)) }
 unfolding counted
@@ -51,8 +42,6 @@ ifStmt-deeper e ops n m s h d = rw (one-down ops n h) d
 pub expressionList-deeper : (e : Env) (ops : Table) (n : ℕ) (s : St) {r : St} → (n ≡ 0 → ⊥) → Does e (P.expressionList (counted ops (n - 1))) s tt r → Does e (counted ops n .expressionList) s tt r
 expressionList-deeper e ops n s h d = rw (one-down ops n h) d
 
--- ---- what spends
-
 -- where n is no less than what was left, and something was
 pub falls-after : {A : Type 0} (e : Env) (m : Acts A) (s : St) (n : ℕ) {a : A} {r : St} → Spends m → 0 < n → left (s .p) ≤ n → Does e m s a r → left (r .p) < n
 falls-after e m s n {a} {r} h l k d =
@@ -61,84 +50,3 @@ falls-after e m s n {a} {r} h l k d =
 
 pub falls-after-peeks : {A : Type 0} (e : Env) (m : Acts A) (p : Parser) (n : ℕ) {a : A} {q : Parser} → Spends m → 0 < n → left p ≤ n → Peeks e m p a q → left q < n
 falls-after-peeks e m p n h l k d = falls-after e m (view p []) n h l k (peeks e m p [] d)
-
--- an expression: its first lookup
-pub exprBp-spends : (ops : Table) (n : ℕ) (m : Mark) (prefer : Bool) (bp : ℕ) → Spends (counted ops n .exprBp m prefer bp)
-unfolding counted E.exprBp E.lacksExpr
-exprBp-spends ops zero m prefer bp = spends-first _ _ (spends-stop Deep acts.Acts.done)
-exprBp-spends ops (suc n) m prefer bp = spends-rest (E.marker m) _ (λ x. spends-first E.lacksExpr _ (spends-first (atTs _) _ (spends-at-ts _)))
-
--- a statement: its semicolon, the keyword of a `let`, or the first lookup of an item
-pub stmt-spends : (ops : Table) (n : ℕ) → Spends (counted ops n .stmt)
-unfolding counted E.stmt E.letStmt I.optItem
-stmt-spends ops zero = spends-stop Deep acts.Acts.done
-stmt-spends ops (suc n) =
-    spends-eat SEMICOLON _
-    (spends-rest (at LET-KW) _ (λ b. spends-cond b _ _
-    (spends-rest start _ (λ m. spends-first _ _ (spends-bump LET-KW)))
-    (spends-rest start _ (λ m. spends-first _ _ (spends-first (nth 1) _ (spends-nth 1))))))
-
--- an item: its first lookup
-pub item-spends : (ops : Table) (n : ℕ) (stop : Bool) → Spends (I.item (counted ops n) stop)
-unfolding I.item I.optItem
-item-spends ops n stop = spends-rest start _ (λ m. spends-first _ _ (spends-first (nth 1) _ (spends-nth 1)))
-
--- an index: its bracket
-pub index-spends : (deeper : Counted) → Spends (E.indexOperator deeper)
-unfolding E.indexOperator
-index-spends deeper = spends-opening L-BRACK _
-
--- the test for a parameter: its lookup
-pub ahead-spends : Spends P.paramAhead
-unfolding P.paramAhead
-ahead-spends = spends-first (nth 0) _ (spends-nth 0)
-
--- ---- operators
-
-pub op-spends : (ops : Table) → Spends (currentOp ops)
-unfolding currentOp
-op-spends ops = spends-first (nth 0) _ (spends-nth 0)
-
-abbrev opOf : Table → ℕ → Op
-opOf ops k = record { power = ops k .power; kind = k; next = ops k .next }
-
-op-run : (e : Env) (ops : Table) (p : Parser) → run e (currentOp ops) (view p []) .0 ≡ opOf ops (run e (armOf arms (kindAhead e (looked p) 0)) (view (looked p) []) .0)
-unfolding currentOp run _>>=_ acts.step
-op-run e ops p = ap (λ (o : Op × St). o .0) (run-bind e (armOf arms (kindAhead e (looked p) 0)) (λ k. acts.Acts.done (opOf ops k)) (view (looked p) []))
-
--- an operator is one of its table
-op-is : (e : Env) (ops : Table) (p : Parser) {o : Op} {q : Parser} → Peeks e (currentOp ops) p o q → o ≡ opOf ops (run e (armOf arms (kindAhead e (looked p) 0)) (view (looked p) []) .0)
-op-is e ops p d = sym (ap (λ (x : Op × St). x .0) (d .same [])) ∙ op-run e ops p
-
--- a refused run finds none
-op-dead : (e : Env) (p : Parser) → live p ≡ false → run e (armOf arms (kindAhead e (looked p) 0)) (view (looked p) []) .0 ≡ DOT3
-unfolding run looked
-op-dead e p dead = rw (dead, unseen (e .kinds) (p .refused) (p .pos + 0) dead)
-
-no-power : (mode : ℕ) → tableOf mode DOT3 .power ≡ 0
-unfolding tableOf
-no-power zero = refl
-no-power (suc mode) = refl
-
-pub op-left : (e : Env) (mode : ℕ) (p : Parser) {o : Op} {q : Parser} → Peeks e (currentOp (tableOf mode)) p o q → 0 < o .power → 0 < left p
-op-left e mode p {o} d h =
-    left-unless p (λ dead. let z : o .power ≡ 0 = ap (λ (x : Op). x .power) (op-is e (tableOf mode) p d ∙ ap (opOf (tableOf mode)) (op-dead e p dead)) ∙ no-power mode in omega arith)
-
--- its right side is not read below its power
-pub op-next : (e : Env) (mode : ℕ) (p : Parser) {o : Op} {q : Parser} → Peeks e (currentOp (tableOf mode)) p o q → o .power ≤ o .next
-op-next e mode p {o} d = subst (λ (x : Op). x .power ≤ x .next) (sym (op-is e (tableOf mode) p d)) (all-fair mode _ .1)
-
--- ---- where something is left
-
--- a list goes on only there
-pub left-list : (e : Env) (p : Parser) (sh : Shape) → P.goesHere e p sh ≡ true → 0 < left p
-left-list e p sh h = left-on e p (by (sees e p EOF) refl)
-  where
-    by : (b : Bool) → sees e p EOF ≡ b → sees e p EOF ≡ false
-    by true q = absurd (let z : _≡_ {A = Bool} false true = sym (rw q refl) ∙ h in let y : _≡_ {A = ℕ} 0 1 = cc in omega arith)
-    by false q = q
-
--- no more than this is ever left
-pub left-bound : (p : Parser) → left p < 81938195
-unfolding left
-left-bound p = by-test (λ (n : ℕ). n < 81938195) (live p) _ 0 (λ q. omega arith) (λ q. omega arith)

@@ -3,15 +3,16 @@ use crate::expr_bp;
 use crate::opt;
 use crate::sts;
 use grammar::Mark;
+use grammar::Offer;
 use kinds::messages as say;
 use kinds::syntax_kind_enum as k;
 use runtime::parser::Parser;
 ghost use mathlib.Core.Path.{_≡_};
 ghost use mathlib.Core.Bool.{false};
-ghost use Rattle.runtime.specs.Input.{env};
+ghost use Rattle.input.specs.Input.{env};
 ghost use Rattle.runtime.specs.State.{view, Fit};
 ghost use Rattle.runtime.specs.Acts.{Does};
-ghost use Rattle.grammar.specs.Operators.{tableOf};
+ghost use Rattle.operators.specs.Operators.{tableOf};
 ghost use Rattle.grammar.specs.Items as I;
 ghost use Rattle.grammar.specs.Entry as entry;
 
@@ -31,28 +32,38 @@ fn item_at(
     let p1 = s.p;
     let o = opt(kinds, joints, room, p1, mode, left, s.m);
     let p2 = o.p;
-    if o.yes {
-        if p2.at(kinds, joints, k::SEMICOLON) {
-            return p2.err_and_bump(kinds, joints, room, say::EXPECTED_STATEMENT_FOUND_SEMICOLON);
+    let offer = o.offer;
+    match offer {
+        Offer::Taken => {
+            if p2.at(kinds, joints, k::SEMICOLON) {
+                return p2.err_and_bump(
+                    kinds,
+                    joints,
+                    room,
+                    say::EXPECTED_STATEMENT_FOUND_SEMICOLON,
+                );
+            }
+            p2
         }
-        return p2;
+        Offer::Back(m) => {
+            let l = p2.current(kinds, joints);
+            let p3 = l.p;
+            if l.kind == k::R_CURLY {
+                let p4 = p3.abandon(room, m);
+                let e = p4.start(room);
+                let p5 = e.p;
+                let p6 = p5.error(room, say::UNMATCHED_R_CURLY, 0);
+                let p7 = p6.bump(kinds, joints, room, k::R_CURLY);
+                let d = p7.complete(room, e.m, k::ERROR);
+                return d.p;
+            }
+            if l.kind == k::EOF {
+                return p3.abandon(room, m);
+            }
+            let p4 = p3.abandon(room, m);
+            sts(kinds, joints, room, p4, mode, left)
+        }
     }
-    let l = p2.current(kinds, joints);
-    let p3 = l.p;
-    if l.kind == k::R_CURLY {
-        let p4 = p3.abandon(room, s.m);
-        let e = p4.start(room);
-        let p5 = e.p;
-        let p6 = p5.error(room, say::UNMATCHED_R_CURLY, 0);
-        let p7 = p6.bump(kinds, joints, room, k::R_CURLY);
-        let d = p7.complete(room, e.m, k::ERROR);
-        return d.p;
-    }
-    if l.kind == k::EOF {
-        return p3.abandon(room, s.m);
-    }
-    let p4 = p3.abandon(room, s.m);
-    sts(kinds, joints, room, p4, mode, left)
 }
 
 // source_file_contents, with `stop_on_r_curly` false

@@ -2,17 +2,14 @@
 // one call less to spare, `left`; docs/ARCHITECTURE.md says which function of the crate is where, docs/DECISIONS.md why the names are short.
 pub mod entry;
 
+use grammar::DefFlavor;
 use grammar::Got;
+use grammar::How;
 use grammar::Mark;
+use grammar::Next;
+use grammar::Offer;
+use grammar::Offered;
 use grammar::Parsed;
-use grammar::atom;
-use grammar::atom::Next;
-use grammar::expressions;
-use grammar::items;
-use grammar::operators;
-use grammar::params;
-use grammar::params::DefFlavor;
-use grammar::params::How;
 use kinds::messages as say;
 use kinds::sets::Fixed;
 use kinds::syntax_kind as kind;
@@ -22,12 +19,16 @@ use runtime::parser::Done;
 use runtime::parser::Parser;
 use runtime::parser::Stop;
 use runtime::parser::Told;
+use statements::items;
+use statements::params;
+use terms::atom;
+use terms::expressions;
 ghost use mathlib.Core.Path.{_≡_};
 ghost use Prim.Native.Nat.{_≤_};
-ghost use Rattle.runtime.specs.Input.{env};
+ghost use Rattle.input.specs.Input.{env};
 ghost use Rattle.runtime.specs.State.{view, Fit};
 ghost use Rattle.runtime.specs.Acts.{Does};
-ghost use Rattle.grammar.specs.Operators.{tableOf};
+ghost use Rattle.operators.specs.Operators.{tableOf};
 ghost use Rattle.grammar.specs.Grammar as G;
 ghost use Rattle.grammar.specs.Expressions as E;
 ghost use Rattle.grammar.specs.Params as P;
@@ -174,7 +175,7 @@ fn par(
         }
         How::Typed => {
             let p1 = spec(kinds, joints, room, p, mode, left);
-            let p2 = expressions::var_name(kinds, joints, room, p1);
+            let p2 = grammar::var_name(kinds, joints, room, p1);
             let p3 = grammar::completed(room, p2, m, k::TYPED_PARAM);
             return Told { p: p3, yes: true };
         }
@@ -254,7 +255,7 @@ fn atom(kinds: &[u16], joints: &[u64], room: &mut [u32], p: Parser, mode: u8, le
     let next = la.kind;
     match first {
         k::HARDWAREIDENT => {
-            let d = atom::hardware_qubit(kinds, joints, room, p3);
+            let d = grammar::hardware_qubit(kinds, joints, room, p3);
             return atom::node(d);
         }
         k::L_PAREN => {
@@ -690,34 +691,37 @@ fn stmt(kinds: &[u16], joints: &[u64], room: &mut [u32], p: Parser, mode: u8, le
     let p8 = s.p;
     let o = opt(kinds, joints, room, p8, mode, d, s.m);
     let p9 = o.p;
-    if o.yes {
-        return p9;
-    }
-    if p9.at(kinds, joints, k::PRAGMA) {
-        let p10 = p9.bump_any(kinds, joints, room);
-        return grammar::completed(room, p10, s.m, k::PRAGMA_STATEMENT);
-    }
-    if p9.at(kinds, joints, k::ANNOTATION) {
-        let p11 = p9.bump_any(kinds, joints, room);
-        return grammar::completed(room, p11, s.m, k::ANNOTATION_STATEMENT);
-    }
-    let c = expressions::stmt_lacks_expr(kinds, joints, p9);
-    let p12 = c.p;
-    if c.yes {
-        let p13 = p12.err_and_bump(
-            kinds,
-            joints,
-            room,
-            say::STMT_EXPECTED_EXPRESSION_TYPE_DECLARATION_OR_LET,
-        );
-        return p13.abandon(room, s.m);
-    }
-    let e = expr_bp(kinds, joints, room, p12, mode, d, Mark::Given(s.m), true, 1);
-    let p14 = e.p;
-    let g = e.got;
-    match g {
-        Got::Nothing => p14,
-        Got::Is(cm, block) => expressions::stmt_end(kinds, joints, room, p14, cm, block),
+    let offer = o.offer;
+    match offer {
+        Offer::Taken => p9,
+        Offer::Back(m) => {
+            if p9.at(kinds, joints, k::PRAGMA) {
+                let p10 = p9.bump_any(kinds, joints, room);
+                return grammar::completed(room, p10, m, k::PRAGMA_STATEMENT);
+            }
+            if p9.at(kinds, joints, k::ANNOTATION) {
+                let p11 = p9.bump_any(kinds, joints, room);
+                return grammar::completed(room, p11, m, k::ANNOTATION_STATEMENT);
+            }
+            let c = expressions::stmt_lacks_expr(kinds, joints, p9);
+            let p12 = c.p;
+            if c.yes {
+                let p13 = p12.err_and_bump(
+                    kinds,
+                    joints,
+                    room,
+                    say::STMT_EXPECTED_EXPRESSION_TYPE_DECLARATION_OR_LET,
+                );
+                return p13.abandon(room, m);
+            }
+            let e = expr_bp(kinds, joints, room, p12, mode, d, Mark::Given(m), true, 1);
+            let p14 = e.p;
+            let g = e.got;
+            match g {
+                Got::Nothing => p14,
+                Got::Is(cm, block) => expressions::stmt_end(kinds, joints, room, p14, cm, block),
+            }
+        }
     }
 }
 
@@ -1196,9 +1200,9 @@ fn opt(
     mode: u8,
     left: u32,
     m: u32,
-) -> Told
+) -> Offered
     requires { ⌜ Fit p ⌝ }
-    ensures { λ r. ⌜ Does (env (now (kinds .entry)) (now (joints .entry))) (I.optItem (counted (tableOf mode) left) m) (view p (now (room .entry))) (r .yes) (view (r .p) (now (room .exit))) ⌝ }
+    ensures { λ r. ⌜ Does (env (now (kinds .entry)) (now (joints .entry))) (I.optItem (counted (tableOf mode) left) m) (view p (now (room .entry))) (r .offer) (view (r .p) (now (room .exit))) ⌝ }
 {
     let la = p.nth(kinds, joints, 1);
     let p1 = la.p;
@@ -1206,7 +1210,10 @@ fn opt(
     let p2 = l.p;
     if items::declares(l.kind, la.kind) {
         let p3 = decl(kinds, joints, room, p2, mode, left, m);
-        return Told { p: p3, yes: true };
+        return Offered {
+            p: p3,
+            offer: Offer::Taken,
+        };
     }
     let l2 = p2.current(kinds, joints);
     let p3 = l2.p;
@@ -1230,35 +1237,59 @@ fn opt(
                 );
                 let p10 = grammar::completed(room, p9, s.m, k::QUBIT_TYPE);
                 let p11 = items::qubit_end(kinds, joints, room, p10, m);
-                return Told { p: p11, yes: true };
+                return Offered {
+                    p: p11,
+                    offer: Offer::Taken,
+                };
             }
             let p12 = grammar::completed(room, p7, s.m, k::QUBIT_TYPE);
             let p13 = items::qubit_end(kinds, joints, room, p12, m);
-            return Told { p: p13, yes: true };
+            return Offered {
+                p: p13,
+                offer: Offer::Taken,
+            };
         }
         k::CONST_KW => {
             let p4 = decl(kinds, joints, room, p3, mode, left, m);
-            return Told { p: p4, yes: true };
+            return Offered {
+                p: p4,
+                offer: Offer::Taken,
+            };
         }
         k::GATE_KW => {
             let p4 = gdef(kinds, joints, room, p3, mode, left, m);
-            return Told { p: p4, yes: true };
+            return Offered {
+                p: p4,
+                offer: Offer::Taken,
+            };
         }
         k::BREAK_KW => {
             let p4 = items::break_(kinds, joints, room, p3, m);
-            return Told { p: p4, yes: true };
+            return Offered {
+                p: p4,
+                offer: Offer::Taken,
+            };
         }
         k::CONTINUE_KW => {
             let p4 = items::continue_(kinds, joints, room, p3, m);
-            return Told { p: p4, yes: true };
+            return Offered {
+                p: p4,
+                offer: Offer::Taken,
+            };
         }
         k::END_KW => {
             let p4 = items::end_(kinds, joints, room, p3, m);
-            return Told { p: p4, yes: true };
+            return Offered {
+                p: p4,
+                offer: Offer::Taken,
+            };
         }
         k::IF_KW => {
             let p4 = ifs(kinds, joints, room, p3, mode, left, m);
-            return Told { p: p4, yes: true };
+            return Offered {
+                p: p4,
+                offer: Offer::Taken,
+            };
         }
         k::WHILE_KW => {
             let p4 = p3.must(kinds, joints, room, k::WHILE_KW);
@@ -1269,29 +1300,47 @@ fn opt(
             let p8 = grammar::expected(kinds, joints, room, p7, k::R_PAREN);
             let p9 = body(kinds, joints, room, p8, mode, left);
             let p10 = grammar::completed(room, p9, m, k::WHILE_STMT);
-            return Told { p: p10, yes: true };
+            return Offered {
+                p: p10,
+                offer: Offer::Taken,
+            };
         }
         k::FOR_KW => {
             let p4 = fors(kinds, joints, room, p3, mode, left, m);
-            return Told { p: p4, yes: true };
+            return Offered {
+                p: p4,
+                offer: Offer::Taken,
+            };
         }
         k::DEF_KW => {
             let p4 = def(kinds, joints, room, p3, mode, left, m);
-            return Told { p: p4, yes: true };
+            return Offered {
+                p: p4,
+                offer: Offer::Taken,
+            };
         }
         k::DEFCAL_KW => {
             let p4 = dcal(kinds, joints, room, p3, mode, left, m);
-            return Told { p: p4, yes: true };
+            return Offered {
+                p: p4,
+                offer: Offer::Taken,
+            };
         }
         k::CAL_KW => {
             let p4 = p3.bump(kinds, joints, room, k::CAL_KW);
             let p5 = body(kinds, joints, room, p4, mode, left);
             let p6 = grammar::completed(room, p5, m, k::CAL);
-            return Told { p: p6, yes: true };
+            return Offered {
+                p: p6,
+                offer: Offer::Taken,
+            };
         }
         k::DEFCALGRAMMAR_KW => {
             let p4 = items::defcalgrammar_(kinds, joints, room, p3, m);
-            return Told { p: p4, yes: true };
+            return Offered {
+                p: p4,
+                offer: Offer::Taken,
+            };
         }
         _ => {
             return more(kinds, joints, room, p3, mode, left, m, first);
@@ -1309,9 +1358,9 @@ fn more(
     left: u32,
     m: u32,
     first: u16,
-) -> Told
+) -> Offered
     requires { ⌜ Fit p ⌝ }
-    ensures { λ r. ⌜ Does (env (now (kinds .entry)) (now (joints .entry))) (I.optItemMore (counted (tableOf mode) left) m first) (view p (now (room .entry))) (r .yes) (view (r .p) (now (room .exit))) ⌝ }
+    ensures { λ r. ⌜ Does (env (now (kinds .entry)) (now (joints .entry))) (I.optItemMore (counted (tableOf mode) left) m first) (view p (now (room .entry))) (r .offer) (view (r .p) (now (room .exit))) ⌝ }
 {
     match first {
         k::RESET_KW => {
@@ -1325,18 +1374,27 @@ fn more(
                 let p4 = x.p;
                 let p5 = grammar::expected(kinds, joints, room, p4, k::SEMICOLON);
                 let p6 = grammar::completed(room, p5, m, k::RESET);
-                return Told { p: p6, yes: true };
+                return Offered {
+                    p: p6,
+                    offer: Offer::Taken,
+                };
             }
             let p7 = p2.error(room, say::EXPECTING_NAME_OF_QUBIT_OR_REGISTER_TO, 0);
             let p8 = p7.abandon(room, m);
-            return Told { p: p8, yes: true };
+            return Offered {
+                p: p8,
+                offer: Offer::Taken,
+            };
         }
         k::BARRIER_KW => {
             let p1 = p.bump(kinds, joints, room, k::BARRIER_KW);
             if p1.at(kinds, joints, k::SEMICOLON) {
                 let p2 = grammar::expected(kinds, joints, room, p1, k::SEMICOLON);
                 let p3 = grammar::completed(room, p2, m, k::BARRIER);
-                return Told { p: p3, yes: true };
+                return Offered {
+                    p: p3,
+                    offer: Offer::Taken,
+                };
             }
             let p4 = list(
                 kinds,
@@ -1349,19 +1407,31 @@ fn more(
             );
             let p5 = grammar::expected(kinds, joints, room, p4, k::SEMICOLON);
             let p6 = grammar::completed(room, p5, m, k::BARRIER);
-            return Told { p: p6, yes: true };
+            return Offered {
+                p: p6,
+                offer: Offer::Taken,
+            };
         }
         k::O_P_E_N_Q_A_S_M_KW => {
             let p1 = items::version_string(kinds, joints, room, p, m);
-            return Told { p: p1, yes: true };
+            return Offered {
+                p: p1,
+                offer: Offer::Taken,
+            };
         }
         k::INCLUDE_KW => {
             let p1 = items::include(kinds, joints, room, p, m);
-            return Told { p: p1, yes: true };
+            return Offered {
+                p: p1,
+                offer: Offer::Taken,
+            };
         }
         k::SWITCH_KW => {
             let p1 = sw(kinds, joints, room, p, mode, left, m);
-            return Told { p: p1, yes: true };
+            return Offered {
+                p: p1,
+                offer: Offer::Taken,
+            };
         }
         k::LET_KW => {
             let p1 = p.must(kinds, joints, room, k::LET_KW);
@@ -1372,7 +1442,10 @@ fn more(
             let p5 = e.p;
             let p6 = grammar::expected(kinds, joints, room, p5, k::SEMICOLON);
             let p7 = grammar::completed(room, p6, m, k::ALIAS_DECLARATION_STATEMENT);
-            return Told { p: p7, yes: true };
+            return Offered {
+                p: p7,
+                offer: Offer::Taken,
+            };
         }
         k::DELAY_KW => {
             let p1 = p.bump(kinds, joints, room, k::DELAY_KW);
@@ -1388,18 +1461,30 @@ fn more(
             );
             let p4 = grammar::expected(kinds, joints, room, p3, k::SEMICOLON);
             let p5 = grammar::completed(room, p4, m, k::DELAY_STMT);
-            return Told { p: p5, yes: true };
+            return Offered {
+                p: p5,
+                offer: Offer::Taken,
+            };
         }
         k::INPUT_KW => {
             let p1 = io(kinds, joints, room, p, mode, left, m);
-            return Told { p: p1, yes: true };
+            return Offered {
+                p: p1,
+                offer: Offer::Taken,
+            };
         }
         k::OUTPUT_KW => {
             let p1 = io(kinds, joints, room, p, mode, left, m);
-            return Told { p: p1, yes: true };
+            return Offered {
+                p: p1,
+                offer: Offer::Taken,
+            };
         }
         _ => {
-            return Told { p, yes: false };
+            return Offered {
+                p,
+                offer: Offer::Back(m),
+            };
         }
     }
 }
@@ -1626,7 +1711,7 @@ fn decl(
         return p8.abandon(room, m);
     }
     let p10 = p4.abandon(room, s.m);
-    let p11 = expressions::var_name(kinds, joints, room, p10);
+    let p11 = grammar::var_name(kinds, joints, room, p10);
     let y = p11.eat(kinds, joints, room, k::SEMICOLON);
     let p12 = y.p;
     if y.yes {
@@ -1666,7 +1751,7 @@ fn io(
     let p1 = p.bump_any(kinds, joints, room);
     let p2 = items::io_type(kinds, joints, room, p1);
     let p3 = spec(kinds, joints, room, p2, mode, left);
-    let p4 = expressions::var_name(kinds, joints, room, p3);
+    let p4 = grammar::var_name(kinds, joints, room, p3);
     grammar::close(
         kinds,
         joints,

@@ -2,11 +2,11 @@
 use mathlib.Core.Path.{_≡_, refl, ap, sym, _∙_}
 use mathlib.Core.Bool.{Bool, true, false, not, cond}
 use Rattle.kinds.specs.Kinds.{EOF}
-use Rattle.runtime.specs.Input.{Env}
+use Rattle.input.specs.Input.{Env}
 use Rattle.runtime.specs.State.{St}
 use Rattle.runtime.specs.Acts.{Acts, Acts.done, Acts.act, _>>=_, run, sees, Does, Steps}
 use Rattle.runtime.proofs.Laws.{run-bind, any, see}
-use Rattle.grammar.specs.declared.params.Shape.{Shape}
+use Rattle.grammar.specs.declared.Shape.{Shape}
 use Rattle.grammar.specs.Params.{atListEnd, endsHere, listGoes, goesHere}
 
 pub assoc : {A B C : Type 0} (m : Acts A) (f : A → Acts B) (g : B → Acts C) → (m >>= f) >>= g ≡ m >>= (λ x. f x >>= g)

@@ -13,8 +13,8 @@ use Rattle.runtime.specs.Acts.{Acts, Acts.done, _>>=_, _>>_, at, atTs, nth, cur
 use Rattle.grammar.specs.declared.Got.{Got}
 use Rattle.grammar.specs.declared.Got.the-variants.{Is, Nothing}
 use Rattle.grammar.specs.declared.Parsed.{Parsed}
-use Rattle.grammar.specs.declared.atom.Next.{Next}
-use Rattle.grammar.specs.declared.atom.Next.the-variants.{Semi, Comma, Stop}
+use Rattle.grammar.specs.declared.Next.{Next}
+use Rattle.grammar.specs.declared.Next.the-variants.{Semi, Comma, Stop}
 use Rattle.grammar.specs.Grammar.{Counted, when, just, fail, failIfAt, isBlocklike}
 use Rattle.grammar.specs.Expressions.{expr, exprBlockContents, callArgList}
 use Rattle.grammar.specs.Params.{argGateCallQubit, argListGateCallQubits}

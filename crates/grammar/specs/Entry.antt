@@ -8,7 +8,7 @@ use Rattle.runtime.specs.declared.parser.Stop.the-variants.{Deep}
 use Rattle.grammar.specs.declared.Mark.the-variants.{Fresh}
 use Rattle.grammar.specs.declared.Got.the-variants.{Nothing}
 use Rattle.grammar.specs.Grammar.{Counted, just}
-use Rattle.grammar.specs.Operators.{Table}
+use Rattle.operators.specs.Operators.{Table}
 use Rattle.grammar.specs.Expressions as E
 use Rattle.grammar.specs.Params as P
 use Rattle.grammar.specs.Atom as A

@@ -10,10 +10,12 @@ use Rattle.runtime.specs.declared.parser.Completed.{Completed}
 use Rattle.runtime.specs.Acts.{Acts, Acts.done, _>>=_, _>>_, at, atTs, nth, current, eat, bump, bumpAny, expect, must, start, complete, abandon, precede, extendTo, errRecover, errAndBump, isRefused, goesOn, Turn, Turn.more, Turn.last, repeats}
 use Rattle.grammar.specs.declared.Mark.{Mark}
 use Rattle.grammar.specs.declared.Mark.the-variants.{Given, Fresh}
+use Rattle.grammar.specs.declared.Offer.{Offer}
+use Rattle.grammar.specs.declared.Offer.the-variants.{Taken, Back}
 use Rattle.grammar.specs.declared.Got.{Got}
 use Rattle.grammar.specs.declared.Got.the-variants.{Is, Nothing}
 use Rattle.grammar.specs.Grammar.{Counted, when, just, fail, failIfAt, failUnlessAt, delimited}
-use Rattle.grammar.specs.Operators.{Table, currentOp}
+use Rattle.operators.specs.Operators.{Table, currentOp}
 
 -- What this file calls of the files that come after it here: modules do not use one another in a circle.
 pub record Later : Type 0 where
@@ -22,7 +24,7 @@ pub record Later : Type 0 where
   -- params.rs, fn arg_list_gate_call_qubits
   pub argListGateCallQubits : Acts (Unit {0})
   -- items.rs, fn opt_item: whether there was an item
-  pub optItem : ℕ → Acts Bool
+  pub optItem : ℕ → Acts Offer
 
 -- fn type_name, line 367
 unfoldable pub typeName : Acts (Unit {0})
@@ -409,6 +411,24 @@ module _ (deeper : Counted) where
                   done (Is cm false)))
             ])
 
+    -- the end of fn stmt, line 84: no item stands here, and the marker was handed back
+    unfoldable pub noItem : ℕ → Acts (Unit {0})
+    noItem m = do
+      b ← at PRAGMA
+      cond b (do
+        bumpAny
+        just (complete m PRAGMA-STATEMENT)) (do
+          b ← at ANNOTATION
+          cond b (do
+            bumpAny
+            just (complete m ANNOTATION-STATEMENT)) (do
+              lacks ← stmtLacksExpr
+              cond lacks (do
+                errAndBump STMT-EXPECTED-EXPRESSION-TYPE-DECLARATION-OR-LET
+                abandon m) (do
+                  g ← exprStmt (Given m)
+                  elim g [ Nothing ↦ done tt | Is cm block ↦ stmtEnd cm block ])))
+
     -- fn stmt, line 70
     unfoldable pub stmt : Acts (Unit {0})
     stmt = do
@@ -419,19 +439,5 @@ module _ (deeper : Counted) where
           m ← start
           letStmt m) (do
             m ← start
-            item ← later .optItem m
-            cond item (done tt) (do
-              b ← at PRAGMA
-              cond b (do
-                bumpAny
-                just (complete m PRAGMA-STATEMENT)) (do
-                  b ← at ANNOTATION
-                  cond b (do
-                    bumpAny
-                    just (complete m ANNOTATION-STATEMENT)) (do
-                      lacks ← stmtLacksExpr
-                      cond lacks (do
-                        errAndBump STMT-EXPECTED-EXPRESSION-TYPE-DECLARATION-OR-LET
-                        abandon m) (do
-                          g ← exprStmt (Given m)
-                          elim g [ Nothing ↦ done tt | Is cm block ↦ stmtEnd cm block ]))))))
+            offer ← later .optItem m
+            elim offer [ Taken ↦ done tt | Back m ↦ noItem m ]))

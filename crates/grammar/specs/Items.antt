@@ -8,6 +8,8 @@ use Rattle.kinds.specs.Kinds.{EOF, SEMICOLON, L-PAREN, R-PAREN, L-BRACK, L-CURL
 use Rattle.kinds.specs.Sets.{ITEM-RECOVERY-SET, CLASSICAL-TYPES, QUBIT-FIRST}
 use Rattle.kinds.specs.Messages.{EXPECTED-STATEMENT-FOUND-SEMICOLON, UNMATCHED-R-CURLY, EXPECTING-CASE-KEYWORD, EXPECTING-NAME-OF-QUBIT-OR-REGISTER-TO, QUANTUM-TYPE-FOUND-IN-INPUT-OUTPUT-DECLARATION, EXPECTED-FUNCTION-ARGUMENTS-IN-DEF, EXPECTED-A-PATH-TO-A-FILE}
 use Rattle.runtime.specs.Acts.{Acts, Acts.done, _>>=_, _>>_, at, nth, current, eat, bump, bumpAny, expect, must, start, complete, abandon, errRecover, errAndBump, Turn, Turn.more, Turn.last, repeats}
+use Rattle.grammar.specs.declared.Offer.{Offer}
+use Rattle.grammar.specs.declared.Offer.the-variants.{Taken, Back}
 use Rattle.grammar.specs.Grammar.{Counted, when, just, fail, failUnlessAt, name, nameR, optRetType}
 use Rattle.grammar.specs.Expressions.{expr, rangeExpr, setExpression, exprBlockContents, designator, qubitTypeSpec, varName}
 use Rattle.grammar.specs.Params.{paramListGateParams, paramListGateQubits, paramListDefParams, paramListDefcalParams, paramListDefcalQubits, argListGateCallQubits, argGateCallQubit}
@@ -100,6 +102,12 @@ qubitEnd m = do
 -- the first test of fn opt_item, line 77
 unfoldable pub declares : ℕ → ℕ → Bool
 declares k la = oneOf CLASSICAL-TYPES k && not (eqb la L-PAREN)
+
+-- the first arm of fn item, line 36: an item that a semicolon follows
+unfoldable pub afterItem : Acts (Unit {0})
+afterItem = do
+  b ← at SEMICOLON
+  when b (errAndBump EXPECTED-STATEMENT-FOUND-SEMICOLON)
 
 module _ (deeper : Counted) where
   -- fn switch_case_stmt, line 109: a round of its loop, and the whole
@@ -342,40 +350,43 @@ module _ (deeper : Counted) where
       ∷ (DEFCALGRAMMAR-KW, defcalgrammar m)
       ∷ statementsMore m
 
-  abbrev pub beginning : List (ℕ × Acts (Unit {0})) → ℕ → Acts Bool
-  beginning [] k = done false
-  beginning (r ∷ rs) k = cond (eqb k (r .0)) (r .1 >> done true) (beginning rs k)
+  -- the statement that begins with a kind takes the marker; where there is none it is handed back
+  abbrev pub beginning : ℕ → List (ℕ × Acts (Unit {0})) → ℕ → Acts Offer
+  beginning m [] k = done (Back m)
+  beginning m (r ∷ rs) k = cond (eqb k (r .0)) (r .1 >> done Taken) (beginning m rs k)
 
   -- the arms of fn opt_item from line 96 on
-  abbrev pub optItemMore : ℕ → ℕ → Acts Bool
-  optItemMore m k = beginning (statementsMore m) k
+  abbrev pub optItemMore : ℕ → ℕ → Acts Offer
+  optItemMore m k = beginning m (statementsMore m) k
 
   -- whether there was an item: `Ok(())`, or `Err(m)` with the marker as it was
-  unfoldable pub optItem : ℕ → Acts Bool
+  unfoldable pub optItem : ℕ → Acts Offer
   optItem m = do
     la ← nth 1
     k ← current
-    cond (declares k la) (classicalDeclarationStmt m >> done true) (do
+    cond (declares k la) (classicalDeclarationStmt m >> done Taken) (do
       k ← current
-      beginning (statements m) k)
+      beginning m (statements m) k)
+
+  -- the end of fn item, line 46: no item stands here, and the marker was handed back
+  unfoldable pub unmatched : Bool → ℕ → Acts (Unit {0})
+  unmatched stopOnRCurly m = do
+    k ← current
+    cond (eqb k R-CURLY && not stopOnRCurly) (do
+      abandon m
+      e ← start
+      fail UNMATCHED-R-CURLY
+      bump R-CURLY
+      just (complete e ERROR)) (cond (oneOf (EOF ∷ R-CURLY ∷ []) k) (abandon m) (do
+        abandon m
+        exprBlockContents deeper))
 
   -- fn item, line 32
   unfoldable pub item : Bool → Acts (Unit {0})
   item stopOnRCurly = do
     m ← start
-    ok ← optItem m
-    cond ok (do
-      b ← at SEMICOLON
-      when b (errAndBump EXPECTED-STATEMENT-FOUND-SEMICOLON)) (do
-        k ← current
-        cond (eqb k R-CURLY && not stopOnRCurly) (do
-          abandon m
-          e ← start
-          fail UNMATCHED-R-CURLY
-          bump R-CURLY
-          just (complete e ERROR)) (cond (oneOf (EOF ∷ R-CURLY ∷ []) k) (abandon m) (do
-            abandon m
-            exprBlockContents deeper)))
+    offer ← optItem m
+    elim offer [ Taken ↦ afterItem | Back m ↦ unmatched stopOnRCurly m ]
 
   -- fn source_file_contents, line 10: a round of its loop, and the whole
   unfoldable pub sourceFileContentsRound : Bool → Unit {0} → Acts (Turn (Unit {0}))

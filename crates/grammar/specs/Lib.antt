@@ -1,5 +1,4 @@
 pub mod Grammar
-pub mod Operators
 pub mod Expressions
 pub mod Params
 pub mod Atom

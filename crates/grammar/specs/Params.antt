@@ -6,14 +6,14 @@ use Rattle.kinds.specs.Membership.{oneOf}
 use Rattle.kinds.specs.Kinds.{EOF, SEMICOLON, COMMA, L-PAREN, R-PAREN, L-BRACK, R-BRACK, L-CURLY, THIN-ARROW, IDENT, HARDWAREIDENT, PARAM-LIST, QUBIT-LIST, EXPRESSION-LIST, TYPED-PARAM-LIST, PARAM, TYPED-PARAM, HARDWARE-QUBIT, IDENTIFIER}
 use Rattle.kinds.specs.Sets.{PARAM-FIRST, TYPES}
 use Rattle.kinds.specs.Messages.{EXPECTED-VALUE-PARAMETER, EXPECTED-COMMA, EXPECTED-ONE-OR-MORE-PARAMETERS, EXPECTED-PARAMETER-NAME, EXPECTED-NAME-IN-QUBIT-ARGUMENT}
-use Rattle.runtime.specs.Input.{Env}
+use Rattle.input.specs.Input.{Env}
 use Rattle.runtime.specs.declared.parser.Parser.{Parser}
 use Rattle.runtime.specs.Acts.{sees, Acts, Acts.done, _>>=_, _>>_, at, atTs, current, bump, expect, start, complete, abandon, Turn, Turn.more, Turn.last, repeats}
-use Rattle.grammar.specs.declared.params.How.{How}
-use Rattle.grammar.specs.declared.params.How.the-variants.{Expr, Qubit, Typed, Untyped}
-use Rattle.grammar.specs.declared.params.Shape.{Shape}
-use Rattle.grammar.specs.declared.params.DefFlavor.{DefFlavor}
-use Rattle.grammar.specs.declared.params.DefFlavor.the-variants.{GateParams, GateQubits, GateCallQubits, DefParams, DefCalParams, DefCalQubits, ExpressionList}
+use Rattle.grammar.specs.declared.How.{How}
+use Rattle.grammar.specs.declared.How.the-variants.{Expr, Qubit, Typed, Untyped}
+use Rattle.grammar.specs.declared.Shape.{Shape}
+use Rattle.grammar.specs.declared.DefFlavor.{DefFlavor}
+use Rattle.grammar.specs.declared.DefFlavor.the-variants.{GateParams, GateQubits, GateCallQubits, DefParams, DefCalParams, DefCalQubits, ExpressionList}
 use Rattle.grammar.specs.Grammar.{Counted, when, just, fail}
 use Rattle.grammar.specs.Expressions.{exprOrRangeExpr, varName, indexedIdentifier}
 

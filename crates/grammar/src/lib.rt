@@ -1,24 +1,21 @@
-// What the files of the grammar share: src/grammar.rs. The productions that call nothing recursive stand here and in the modules,
-// laid out as the crate's files; the others are in the crate cycle.
-pub mod atom;
-pub mod expressions;
-pub mod items;
-pub mod operators;
-pub mod params;
-
+// The types that the definitions speak of, and the functions that several files of the grammar call: src/grammar.rs, `hardware_qubit` and
+// `var_name`. Other productions that call nothing recursive are in the crates terms and statements, the rest is in cycle.
 use kinds::messages as say;
 use kinds::sets::Fixed;
 use kinds::syntax_kind as kind;
 use kinds::syntax_kind_enum as k;
 use runtime::parser::Completed;
+use runtime::parser::Done;
 use runtime::parser::Parser;
 use runtime::parser::Told;
 ghost use mathlib.Core.Path.{_≡_};
-ghost use Rattle.runtime.specs.Input.{env};
+ghost use Rattle.input.specs.Input.{env};
 ghost use Rattle.runtime.specs.State.{view, Fit};
 ghost use Rattle.kinds.specs.Sets.{kindsOf};
 ghost use Rattle.runtime.specs.Acts.{Does, Steps};
 ghost use Rattle.grammar.specs.Grammar as acts;
+ghost use Rattle.grammar.specs.Atom as atoms;
+ghost use Rattle.grammar.specs.Expressions as E;
 
 // `Option<Marker>`: a marker that is handed over, or none.
 pub enum Mark {
@@ -32,10 +29,65 @@ pub enum Got {
     Nothing,
 }
 
+// `Result<(), Marker>`: the marker that was offered is taken, or handed back.
+pub enum Offer {
+    Taken,
+    Back(u32),
+}
+
+// The state and what became of an offered marker.
+pub struct Offered {
+    pub p: Parser,
+    pub offer: Offer,
+}
+
 // The state and what was parsed.
 pub struct Parsed {
     pub p: Parser,
     pub got: Got,
+}
+
+// What follows an element of an array.
+pub enum Next {
+    Semi,
+    Comma,
+    Stop,
+}
+
+// The state and what follows an element.
+pub struct Follows {
+    pub p: Parser,
+    pub next: Next,
+}
+
+// Which list is parsed.
+pub enum DefFlavor {
+    GateParams,
+    GateQubits,
+    GateCallQubits,
+    DefParams,
+    DefCalParams,
+    DefCalQubits,
+    ExpressionList,
+}
+
+// How a parameter is parsed.
+pub enum How {
+    Expr,
+    Qubit,
+    Typed,
+    Untyped,
+}
+
+// What a flavor says of its list: whether it stands in parentheses, the two kinds that end it, whether it must not be empty, the
+// node that it makes, and how a parameter is parsed.
+pub struct Shape {
+    pub parens: bool,
+    pub end: u16,
+    pub end2: u16,
+    pub one: bool,
+    pub node: u16,
+    pub how: How,
 }
 
 // A name, or a recovery.
@@ -169,4 +221,32 @@ pub fn scalar_return(kinds: &[u16], joints: &[u64], room: &mut [u32], p: Parser)
         return p1;
     }
     p1.error(room, say::EXPECTED_SCALAR_RETURN_TYPE_AFTER_ARROW, 0)
+}
+
+// atom.rs: a physical qubit.
+pub fn hardware_qubit(kinds: &[u16], joints: &[u64], room: &mut [u32], p: Parser) -> Done
+    requires { ⌜ Fit p ⌝ }
+    ensures { λ r. ⌜ Does (env (now (kinds .entry)) (now (joints .entry))) atoms.hardwareQubit (view p (now (room .entry))) (r .cm) (view (r .p) (now (room .exit))) ⌝ }
+{
+    let s = p.start(room);
+    let p1 = s.p;
+    let p2 = p1.bump(kinds, joints, room, k::HARDWAREIDENT);
+    p2.complete(room, s.m, k::HARDWARE_QUBIT)
+}
+
+// expressions.rs: a name, or an error where none stands.
+pub fn var_name(kinds: &[u16], joints: &[u64], room: &mut [u32], p: Parser) -> Parser
+    requires { ⌜ Fit p ⌝ }
+    ensures { λ r. ⌜ Does (env (now (kinds .entry)) (now (joints .entry))) E.varName (view p (now (room .entry))) tt (view r (now (room .exit))) ⌝ }
+{
+    let s = p.start(room);
+    let p1 = s.p;
+    if p1.at(kinds, joints, k::IDENT) {
+        let p2 = p1.bump_any(kinds, joints, room);
+        let d = p2.complete(room, s.m, k::NAME);
+        return d.p;
+    }
+    let p3 = p1.error(room, say::EXPECTING_PARAMETER_NAME, 0);
+    let d = p3.complete(room, s.m, k::NAME);
+    d.p
 }

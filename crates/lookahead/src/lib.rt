@@ -1,9 +1,8 @@
 // A reader: it holds the lent kinds and a position, and answers what stands there. The borrow checker covers no function over such a
 // struct, so each is thin and proved by hand; the work is done by `kind_at`, which takes a plain slice and is covered, and everyone
 // else calls `first_kind`.
-use runtime::input;
 ghost use mathlib.Core.Path.{_≡_};
-ghost use Rattle.runtime.specs.Input.{kind};
+ghost use Rattle.input.specs.Input.{kind};
 
 // The lent kinds and a position among them.
 pub struct Reader<'a> {

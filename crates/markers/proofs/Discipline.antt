@@ -1,7 +1,7 @@
 -- What a marker act finds at its marker, at every moment of a run of safe acts. Assumes nothing.
 use mathlib.Core.Path.{_≡_, sym, ap, _∙_}
 use mathlib.Core.Logic.{_⊎_, inl, inr}
-use Rattle.runtime.specs.Input.{Env}
+use Rattle.input.specs.Input.{Env}
 use Rattle.runtime.specs.State.{St, Fit}
 use Rattle.runtime.specs.Acts.{Act, step, Acts, Acts.done, Acts.act, run, one}
 use Rattle.runtime.proofs.Kept.{kept-step}

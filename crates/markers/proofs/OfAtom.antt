@@ -11,8 +11,8 @@ use Rattle.runtime.specs.declared.parser.Completed.{Completed}
 use Rattle.runtime.specs.Acts.{Acts, Acts.done, _>>=_, _>>_, current, nth, Turn, Turn.more, Turn.last}
 use Rattle.grammar.specs.declared.Got.{Got}
 use Rattle.grammar.specs.declared.Got.the-variants.{Is, Nothing}
-use Rattle.grammar.specs.declared.atom.Next.{Next}
-use Rattle.grammar.specs.declared.atom.Next.the-variants.{Semi, Comma, Stop}
+use Rattle.grammar.specs.declared.Next.{Next}
+use Rattle.grammar.specs.declared.Next.the-variants.{Semi, Comma, Stop}
 use Rattle.grammar.specs.Grammar.{Counted}
 use Rattle.grammar.specs.Atom.{identifier, hardwareQubit, timing, node, literal, invModifier, noArgument, tupleComma, tupleNext, tupleKind, tupleEnd, firstSemicolon, arrayNext, arrayEnd, castExpr, gphaseCallExpr, gateCallExpr, modifier, modifiedGateCallExprRound, modifiedGateCallExpr, measureExpression, tupleExprRound, tupleExpr, arrayExprRound, arrayExpr, blockExpr, tryBlockExpr, returnExpr, boxExpr, atomOf, atomExpr}
 use Rattle.markers.proofs.Marks.{Marker.fresh}

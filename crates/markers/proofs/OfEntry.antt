@@ -6,7 +6,7 @@ use Rattle.kinds.specs.Kinds.{SOURCE-FILE}
 use Rattle.runtime.specs.declared.parser.Stop.the-variants.{Deep}
 use Rattle.grammar.specs.declared.Mark.the-variants.{Fresh}
 use Rattle.grammar.specs.Grammar.{Counted}
-use Rattle.grammar.specs.Operators.{Table}
+use Rattle.operators.specs.Operators.{Table}
 use Rattle.grammar.specs.Entry.{later, counted, deepest, sourceFile, oneItem, oneExpression}
 use Rattle.markers.proofs.Calculus.{Run, none, also, run-stop, run-stop-last, opening, closed, unread}
 use Rattle.markers.proofs.Counted.{gotten, handed, unseen, Tidy}

@@ -11,11 +11,13 @@ use Rattle.runtime.specs.declared.parser.Completed.{Completed}
 use Rattle.runtime.specs.Acts.{Acts.done, _>>=_, _>>_, abandon, extendTo, repeats, Turn.more, Turn.last}
 use Rattle.grammar.specs.declared.Mark.{Mark}
 use Rattle.grammar.specs.declared.Mark.the-variants.{Given, Fresh}
+use Rattle.grammar.specs.declared.Offer.{Offer}
+use Rattle.grammar.specs.declared.Offer.the-variants.{Taken, Back}
 use Rattle.grammar.specs.declared.Got.{Got}
 use Rattle.grammar.specs.declared.Got.the-variants.{Is, Nothing}
 use Rattle.grammar.specs.Grammar.{Counted}
-use Rattle.grammar.specs.Operators.{Guards, Table, arms, firstAt, armOf, currentOp}
-use Rattle.grammar.specs.Expressions.{Later, typeName, marker, lacksExpr, assigned, noAssignment, closeOp, castAhead, stmtLacksExpr, noSemicolon, stmtEnd, literalDesignator, arrayBase, unindexed, argsEnd, varName, expr, rangeExpr, exprOrRangeExpr, letStmt, exprBlockContentsRound, exprBlockContents, designator, nonArrayTypeSpec, arrayTypeSpecRound, arrayTypeSpec, typeSpec, complexTypeSpec, qubitTypeSpec, setExpression, indexOperator, indexExpr, indexedIdentifierRound, indexedIdentifier, indexed, callArgList, callExpr, postfixExprRound, postfixExpr, lhs, exprBpRound, exprBp, stmt}
+use Rattle.operators.specs.Operators.{Guards, Table, arms, firstAt, armOf, currentOp}
+use Rattle.grammar.specs.Expressions.{Later, typeName, marker, lacksExpr, assigned, noAssignment, closeOp, castAhead, stmtLacksExpr, noSemicolon, stmtEnd, literalDesignator, arrayBase, unindexed, argsEnd, varName, expr, rangeExpr, exprOrRangeExpr, letStmt, exprBlockContentsRound, exprBlockContents, designator, nonArrayTypeSpec, arrayTypeSpecRound, arrayTypeSpec, typeSpec, complexTypeSpec, qubitTypeSpec, setExpression, indexOperator, indexExpr, indexedIdentifierRound, indexedIdentifier, indexed, callArgList, callExpr, postfixExprRound, postfixExpr, lhs, exprBpRound, exprBp, noItem, stmt}
 use Rattle.markers.proofs.Marks.{Marker.fresh, Marker.made, Marker.shut, Marks}
 use Rattle.markers.proofs.Calculus.{Run, none, then, also, from, ends, if, forget, run-start, run-precede, run-extend, run-look, run-at, run-at-ts, run-eat, run-refused, run-bump, run-bump-any, run-expect, run-error, run-must, run-goes-on, turns, run-repeats, run-err-recover, opening, closing, dropping, closed, closed-around, dropped, made-of, answered, answered-around, unread, perhaps, branch}
 use Rattle.markers.proofs.Counted.{gotten, handed, unseen, Tidy}
@@ -207,15 +209,16 @@ module _ (deeper : Counted) (h : Tidy deeper) where
   call-arg-list =
       also _ _ (run-must L-PAREN) (λ u. opening _ (λ m. opening _ (λ m1. also _ _ (run-bump L-PAREN) (λ u. also _ _ (delimited-tidy L-PAREN R-PAREN false COMMA EXPR-FIRST _ tt tt expr-got) (λ u. args-end m m1)))))
 
--- an item that was read took its marker; else the marker is as it was
-abbrev pub untaken : ℕ → Bool → Marks
-untaken m b = cond b [] (fresh m ∷ [])
+-- an item that was read took its marker; else it is handed back as it was
+abbrev pub untaken : Offer → Marks
+untaken Taken = []
+untaken (Back m) = fresh m ∷ []
 
 -- what is asked of the files that come after
 pub record Tidies (l : Later) : Type 0 where
   pub atom-expr : Run [] (l .atomExpr) gotten
   pub arg-list : Run [] (l .argListGateCallQubits) none
-  pub opt-item : (m : ℕ) → Run (fresh m ∷ []) (l .optItem m) (untaken m)
+  pub opt-item : (m : ℕ) → Run (fresh m ∷ []) (l .optItem m) untaken
 
 module _ (deeper : Counted) (h : Tidy deeper) (later : Later) (g : Tidies later) where
   call-expr : (cm : Completed) → Run (shut (cm .pos) ∷ []) (callExpr deeper later cm) made-of
@@ -277,6 +280,21 @@ module _ (deeper : Counted) (h : Tidy deeper) (later : Later) (g : Tidies later)
             then _ _ (λ a. shut (a .pos) ∷ []) (run-extend cm m [])
             (λ cm. if (prefer && block) _ _ (ends (Is cm true) gotten) (then _ _ made-of (run-repeats _ made-of (bp-round prefer bp) cm) (λ cm. ends (Is cm false) gotten)))
 
+  no-item : (m : ℕ) → Run (fresh m ∷ []) (noItem deeper later m) none
+  unfolding noItem
+  no-item m =
+      also _ _ (run-at 0 PRAGMA)
+      (λ b. if b _ _ (also _ _ run-bump-any (λ u. closed m PRAGMA-STATEMENT tt))
+      (also _ _ (run-at 0 ANNOTATION)
+      (λ b. if b _ _ (also _ _ run-bump-any (λ u. closed m ANNOTATION-STATEMENT tt))
+      (also _ _ stmt-lacks-expr
+      (λ lacks. if lacks _ _ (also _ _ (run-err-recover STMT-EXPECTED-EXPRESSION-TYPE-DECLARATION-OR-LET _ tt) (λ u. dropped m))
+      (then _ _ gotten (h .expr-bp (Given m) true 1) by))))))
+    where
+      by : (x : Got) → Run {A = Unit {0}} (gotten x) (elim x [ Nothing ↦ done tt | Is cm block ↦ stmtEnd cm block ]) none
+      by Nothing = ends tt none
+      by (Is cm block) = stmt-end cm block
+
   pub stmt-tidy : Run [] (stmt deeper later) none
   unfolding stmt
   stmt-tidy =
@@ -284,16 +302,8 @@ module _ (deeper : Counted) (h : Tidy deeper) (later : Later) (g : Tidies later)
       (λ b. if b _ _ (ends tt none)
       (also _ _ (run-at 0 LET-KW)
       (λ b. if b _ _ (opening _ (λ m. let-stmt deeper h m))
-      (opening _ (λ m. then _ _ (untaken m) (g .opt-item m)
-      (λ item. branch item _ _ (ends tt none)
-      (also _ _ (run-at 0 PRAGMA)
-      (λ b. if b _ _ (also _ _ run-bump-any (λ u. closed m PRAGMA-STATEMENT tt))
-      (also _ _ (run-at 0 ANNOTATION)
-      (λ b. if b _ _ (also _ _ run-bump-any (λ u. closed m ANNOTATION-STATEMENT tt))
-      (also _ _ stmt-lacks-expr
-      (λ lacks. if lacks _ _ (also _ _ (run-err-recover STMT-EXPECTED-EXPRESSION-TYPE-DECLARATION-OR-LET _ tt) (λ u. dropped m))
-      (then _ _ gotten (h .expr-bp (Given m) true 1) by)))))))))))))
+      (opening _ (λ m. then _ _ untaken (g .opt-item m) offered)))))
     where
-      by : (x : Got) → Run {A = Unit {0}} (gotten x) (elim x [ Nothing ↦ done tt | Is cm block ↦ stmtEnd cm block ]) none
-      by Nothing = ends tt none
-      by (Is cm block) = stmt-end cm block
+      offered : (x : Offer) → Run {A = Unit {0}} (untaken x) (elim x [ Taken ↦ done tt | Back m ↦ noItem deeper later m ]) none
+      offered Taken = ends tt none
+      offered (Back m) = no-item m

@@ -8,8 +8,10 @@ use Rattle.kinds.specs.Kinds.{EOF, SEMICOLON, EQ, L-PAREN, R-PAREN, L-BRACK, L-
 use Rattle.kinds.specs.Sets.{ITEM-RECOVERY-SET, CLASSICAL-TYPES, QUBIT-FIRST}
 use Rattle.kinds.specs.Messages.{EXPECTED-A-PATH-TO-A-FILE, EXPECTING-CASE-KEYWORD, EXPECTED-STATEMENT-FOUND-SEMICOLON}
 use Rattle.runtime.specs.Acts.{Acts}
+use Rattle.grammar.specs.declared.Offer.{Offer}
+use Rattle.grammar.specs.declared.Offer.the-variants.{Taken, Back}
 use Rattle.grammar.specs.Grammar.{Counted}
-use Rattle.grammar.specs.Items.{break, continue, end, filepathR, defcalgrammar, include, skipToSemicolon, version, versionString, ioType, qubitEnd, declares, switchCaseStmtRound, switchCaseStmt, ifStmt, whileStmt, forRest, forStmt, qubitDeclarationStmt, resetStmt, gateDefinition, signature, defcal, classicalDeclarationStmt, ioDeclarationStmt, defStmt, cal, barrier, delayStmt, aliasStmt, statements, beginning, optItem, item, sourceFileContentsRound, sourceFileContents}
+use Rattle.grammar.specs.Items.{break, continue, end, filepathR, defcalgrammar, include, skipToSemicolon, version, versionString, ioType, qubitEnd, declares, switchCaseStmtRound, switchCaseStmt, ifStmt, whileStmt, forRest, forStmt, qubitDeclarationStmt, resetStmt, gateDefinition, signature, defcal, classicalDeclarationStmt, ioDeclarationStmt, defStmt, cal, barrier, delayStmt, aliasStmt, statements, beginning, optItem, unmatched, afterItem, item, sourceFileContentsRound, sourceFileContents}
 use Rattle.markers.proofs.Marks.{Marker.fresh}
 use Rattle.markers.proofs.Safe.{nodeKind}
 use Rattle.markers.proofs.Calculus.{Run, none, frame, then, also, ends, if, run-look, run-at, run-eat, run-bump, run-bump-any, run-expect, run-error, run-must, run-repeats, run-err-recover, opening, closing, dropping, closed, dropped, unread, unasked, perhaps, branch}
@@ -63,15 +65,19 @@ qubit-end : (m : ℕ) → Run (fresh m ∷ []) (qubitEnd m) none
 unfolding qubitEnd
 qubit-end m = also _ _ (run-at 0 HARDWAREIDENT) (λ b. also _ _ (if b _ _ (unread _ (unasked _ hardware-qubit)) var-name) (λ u. also _ _ (run-expect SEMICOLON tt) (λ b. closed m QUANTUM-DECLARATION-STATEMENT tt)))
 
+after-item : Run [] afterItem none
+unfolding afterItem
+after-item = also _ _ (run-at 0 SEMICOLON) (λ b. perhaps b _ (run-err-recover EXPECTED-STATEMENT-FOUND-SEMICOLON _ tt))
+
 -- each statement takes its marker
 abbrev Each : ℕ → List (ℕ × Acts (Unit {0})) → Type 0
 Each m [] = Unit {0}
 Each m (r ∷ rs) = Run (fresh m ∷ []) (r .1) none × Each m rs
 
 module _ (deeper : Counted) (h : Tidy deeper) where
-  beginning-ends : (m : ℕ) (rs : List (ℕ × Acts (Unit {0}))) (k : ℕ) → Each m rs → Run (fresh m ∷ []) (beginning deeper rs k) (untaken m)
-  beginning-ends m [] k e = ends false (untaken m)
-  beginning-ends m (r ∷ rs) k e = if (eqb k (r .0)) _ _ (then _ _ none (e .0) (λ u. ends true (untaken m))) (beginning-ends m rs k (e .1))
+  beginning-ends : (m : ℕ) (rs : List (ℕ × Acts (Unit {0}))) (k : ℕ) → Each m rs → Run (fresh m ∷ []) (beginning deeper m rs k) untaken
+  beginning-ends m [] k e = ends (Back m) untaken
+  beginning-ends m (r ∷ rs) k e = if (eqb k (r .0)) _ _ (then _ _ none (e .0) (λ u. ends Taken untaken)) (beginning-ends m rs k (e .1))
 
   switch-case-stmt : (m : ℕ) → Run (fresh m ∷ []) (switchCaseStmt deeper m) none
   unfolding switchCaseStmt switchCaseStmtRound
@@ -167,20 +173,26 @@ module _ (deeper : Counted) (h : Tidy deeper) where
   each-statement : (m : ℕ) → Each m (statements deeper m)
   each-statement m = (qubit-declaration-stmt m, (classical-declaration-stmt m, (gate-definition m, (break-ends m, (continue-ends m, (end-ends m, (h .if-stmt m, (while-stmt m, (for-stmt m, (def-stmt m, (defcal-ends m, (cal-ends m, (defcalgrammar-ends m, (reset-stmt m, (barrier-ends m, (version-string m, (include-ends m, (switch-case-stmt m, (alias-stmt m, (delay-stmt m, (io-declaration-stmt m, (io-declaration-stmt m, tt))))))))))))))))))))))
 
-  pub opt-item : (m : ℕ) → Run (fresh m ∷ []) (optItem deeper m) (untaken m)
+  pub opt-item : (m : ℕ) → Run (fresh m ∷ []) (optItem deeper m) untaken
   unfolding optItem
   opt-item m =
       also _ _ (run-look 1) (λ la. also _ _ (run-look 0)
-      (λ k. if (declares k la) _ _ (then _ _ none (classical-declaration-stmt m) (λ u. ends true (untaken m))) (also _ _ (run-look 0) (λ k. beginning-ends m (statements deeper m) k (each-statement m)))))
+      (λ k. if (declares k la) _ _ (then _ _ none (classical-declaration-stmt m) (λ u. ends Taken untaken)) (also _ _ (run-look 0) (λ k. beginning-ends m (statements deeper m) k (each-statement m)))))
+
+  unmatched-tidy : (stop : Bool) (m : ℕ) → Run (fresh m ∷ []) (unmatched deeper stop m) none
+  unfolding unmatched
+  unmatched-tidy stop m =
+      also _ _ (run-look 0)
+      (λ k. if (eqb k R-CURLY && not stop) _ _ (dropping m _ (opening _ (λ e. also _ _ (run-error _ 0 tt) (λ u. also _ _ (run-bump R-CURLY) (λ u. closed e ERROR tt)))))
+      (if (oneOf (EOF ∷ R-CURLY ∷ []) k) _ _ (dropped m) (dropping m _ (expr-block-contents deeper h))))
 
   pub item-tidy : (stop : Bool) → Run [] (item deeper stop) none
   unfolding item
-  item-tidy stop =
-      opening _ (λ m. then _ _ (untaken m) (opt-item m)
-      (λ ok. branch ok _ _ (also _ _ (run-at 0 SEMICOLON) (λ b. perhaps b _ (run-err-recover EXPECTED-STATEMENT-FOUND-SEMICOLON _ tt)))
-      (also _ _ (run-look 0)
-      (λ k. if (eqb k R-CURLY && not stop) _ _ (dropping m _ (opening _ (λ e. also _ _ (run-error _ 0 tt) (λ u. also _ _ (run-bump R-CURLY) (λ u. closed e ERROR tt)))))
-      (if (oneOf (EOF ∷ R-CURLY ∷ []) k) _ _ (dropped m) (dropping m _ (expr-block-contents deeper h)))))))
+  item-tidy stop = opening _ (λ m. then _ _ untaken (opt-item m) offered)
+    where
+      offered : (x : Offer) → Run {A = Unit {0}} (untaken x) (elim x [ Taken ↦ afterItem | Back m ↦ unmatched deeper stop m ]) none
+      offered Taken = after-item
+      offered (Back m) = unmatched-tidy stop m
 
   pub source-file-contents : (stop : Bool) → Run [] (sourceFileContents deeper stop) none
   unfolding sourceFileContents sourceFileContentsRound

@@ -6,11 +6,11 @@ use lib.Dec.{T, ltb}
 use Rattle.kinds.specs.Membership.{oneOf}
 use Rattle.kinds.specs.Kinds.{EOF, COMMA, L-PAREN, R-PAREN, L-BRACK, IDENT, HARDWAREIDENT, HARDWARE-QUBIT, IDENTIFIER, PARAM, TYPED-PARAM}
 use Rattle.kinds.specs.Sets.{TYPES, PARAM-FIRST}
-use Rattle.grammar.specs.declared.params.DefFlavor.{DefFlavor}
-use Rattle.grammar.specs.declared.params.DefFlavor.the-variants.{GateParams, GateQubits, GateCallQubits, DefParams, DefCalParams, DefCalQubits, ExpressionList}
-use Rattle.grammar.specs.declared.params.Shape.{Shape}
-use Rattle.grammar.specs.declared.params.How.{How}
-use Rattle.grammar.specs.declared.params.How.the-variants.{Expr, Qubit, Typed, Untyped}
+use Rattle.grammar.specs.declared.DefFlavor.{DefFlavor}
+use Rattle.grammar.specs.declared.DefFlavor.the-variants.{GateParams, GateQubits, GateCallQubits, DefParams, DefCalParams, DefCalQubits, ExpressionList}
+use Rattle.grammar.specs.declared.Shape.{Shape}
+use Rattle.grammar.specs.declared.How.{How}
+use Rattle.grammar.specs.declared.How.the-variants.{Expr, Qubit, Typed, Untyped}
 use Rattle.grammar.specs.Grammar.{Counted}
 use Rattle.grammar.specs.Params.{paramUntyped, shapeOf, listOpen, atListEnd, listGoes, paramAhead, listNext, listEmpty, listEnd, paramTyped, argGateCallQubit, foundParam, paramListOpenqasmRound, paramListOpenqasm, paramListGateParams, paramListGateQubits, argListGateCallQubits, paramListDefParams, paramListDefcalParams, paramListDefcalQubits, expressionList}
 use Rattle.markers.proofs.Marks.{Marker.fresh}

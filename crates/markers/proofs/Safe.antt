@@ -16,18 +16,19 @@ use Rattle.event.specs.declared.Event.the-variants.{Start, Finish, Token, Error
 use Rattle.event.specs.Event.{holds, isStart, isBare, withKind, withDistance, Sound}
 use Rattle.laws.proofs.Tests.{by-test}
 use Rattle.kinds.proofs.Laws.{both-parts}
-use Rattle.runtime.specs.declared.input.Parts.{Parts}
-use Rattle.runtime.specs.declared.input.Parts.the-variants.{One}
+use Rattle.input.specs.declared.Parts.{Parts}
+use Rattle.input.specs.declared.Parts.the-variants.{One}
 use Rattle.runtime.specs.declared.parser.Parser.{Parser}
-use Rattle.runtime.specs.Input.{Env, seen}
-use Rattle.runtime.specs.Glue.{gluedKinds, partsIn, partsOf, rawCount, standsAt}
+use Rattle.input.specs.Input.{Env, seen}
+use Rattle.input.specs.Glue.{gluedKinds, partsIn, partsOf, rawCount, standsAt}
 use Rattle.runtime.specs.State.{St, live, looked, halted, stopNumber, numbers, added, rewritten, refuse, popped, eventAt, pushEvent, enough, consume, doBump, named, linked, dropped, mostLooks, counted, refusal, consumed, Fit, gap}
 use Rattle.runtime.specs.Cover.{events}
 use Rattle.runtime.specs.Acts.{Act, Act.looks, Act.peeks, Act.eats, Act.takes, Act.starts, Act.completes, Act.abandons, Act.precedes, Act.extends, Act.fails, Act.stops, Act.asks, Answer, kindAhead, sees, step, Acts, Acts.done, Acts.act, run}
 use Rattle.runtime.proofs.Kept.{kept-step}
 use Rattle.runtime.proofs.Laws.{stop-number}
-use Rattle.runtime.proofs.Runs.{fits, Held, helds, refused-run, few-parts}
-use Rattle.runtime.proofs.Covered.{events-added, events-popped}
+use Rattle.input.proofs.Reading.{few-parts}
+use Rattle.runtime.proofs.Runs.{fits, Held, helds, refused-run}
+use Rattle.runs.proofs.Covered.{events-added, events-popped}
 use Rattle.markers.proofs.Marks.{Marker.fresh, Marker.made, Marks, Free, at, start-below, bare-start}
 use Rattle.markers.proofs.Live.{Live, live-add, live-start, Closes, Drops, Has, Extends, closes-at, drops-at, has-at, extends-at, bare-extends, live-complete, live-drop, live-pop, live-extend, live-precede}
 

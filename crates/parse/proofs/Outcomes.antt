@@ -6,8 +6,8 @@ use native.Mathlib.Omega.{arith}
 use lib.ListN.{length}
 use borrow.Author.Tests.{eq-eqb, ne-eqb, lt-ltb, le-ltb}
 use Rattle.runtime.specs.declared.parser.Parser.{Parser}
-use Rattle.runtime.specs.Input.{Env, env}
-use Rattle.runtime.specs.State.{St, view, new, mostTokens}
+use Rattle.input.specs.Input.{Env, env, mostTokens}
+use Rattle.runtime.specs.State.{St, view, new}
 use Rattle.runtime.specs.Acts.{Acts, Does}
 use Rattle.event.proofs.Rooms.{length-events, first-words}
 use Rattle.runtime.proofs.Runs.{held-run}

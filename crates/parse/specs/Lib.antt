@@ -1,3 +1,1 @@
 pub mod Parse
-pub mod Refusals
-pub mod Handed

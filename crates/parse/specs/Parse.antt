@@ -7,12 +7,12 @@ use lib.ListN.{length, take, replicate}
 use Rattle.kinds.specs.Membership.{oneOf}
 use Rattle.kinds.specs.Sets.{PERMITTED}
 use Rattle.runtime.specs.declared.parser.Parser.{Parser}
-use Rattle.runtime.specs.Input.{env}
+use Rattle.input.specs.Input.{env, mostTokens}
 use Rattle.event.specs.Event.{eventWords, wordsOf}
-use Rattle.runtime.specs.State.{St, view, new, live, mostTokens}
+use Rattle.runtime.specs.State.{St, view, new, live}
 use Rattle.runtime.specs.Cover.{events}
 use Rattle.runtime.specs.Acts.{Acts, run}
-use Rattle.grammar.specs.Operators.{tableOf}
+use Rattle.operators.specs.Operators.{tableOf}
 use Rattle.grammar.specs.Entry.{sourceFile, oneItem, oneExpression}
 use Rattle.parse.specs.declared.Entry.{Entry}
 use Rattle.parse.specs.declared.Entry.the-variants.{SourceFile, Item, Expression}

@@ -7,7 +7,7 @@ ghost use mathlib.Core.Path.{_≡_};
 ghost use Prim.Native.Nat.{_*_, _≤_};
 ghost use lib.ListN.{length};
 ghost use Rattle.event.specs.Event.{eventWords};
-ghost use Rattle.runtime.specs.Input.{env};
+ghost use Rattle.input.specs.Input.{env};
 ghost use Rattle.runtime.specs.State.{view, new, Fit};
 ghost use Rattle.runtime.specs.Acts.{Does};
 ghost use Rattle.parse.specs.Parse.{lent, actsOf, refuses, firstFault, numberOf, zeroed, settled, ends, parsed};

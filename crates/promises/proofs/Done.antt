@@ -12,20 +12,20 @@ use Rattle.kinds.specs.Kinds.{EOF}
 use Rattle.kinds.specs.Membership.{oneOf, both}
 use Rattle.kinds.specs.Sets.{PERMITTED}
 use Rattle.kinds.proofs.Laws.{both-parts}
-use Rattle.runtime.specs.Input.{env}
+use Rattle.input.specs.Input.{env}
 use Rattle.event.specs.Event.{wordsOf}
 use Rattle.laws.proofs.Tests.{apart}
 use Rattle.event.proofs.Rooms.{length-words}
 use Rattle.runtime.specs.State.{view, new, live, Fit}
 use Rattle.runtime.specs.Cover.{events}
 use Rattle.runtime.proofs.Runs.{fit-run, Held, held-run}
-use Rattle.grammar.specs.Operators.{tableOf}
+use Rattle.operators.specs.Operators.{tableOf}
 use Rattle.parse.specs.declared.Entry.{Entry}
 use Rattle.parse.specs.declared.Entry.the-variants.{SourceFile, Item, Expression}
 use Rattle.parse.specs.Parse.{Lent, Outcome, firstFault, actsOf, ran, leaves, parsed}
-use Rattle.parse.specs.Refusals.{reason}
-use Rattle.parse.proofs.Reached.{Reason, Reason.none, Reason.room, Reason.deep, Reason.lookups, Reason.panic}
-use Rattle.parse.proofs.Theorems.{is-reason, has-reason, done-when, hands-out}
+use Rattle.answers.specs.Refusals.{reason}
+use Rattle.answers.proofs.Reached.{Reason, Reason.none, Reason.room, Reason.deep, Reason.lookups, Reason.panic}
+use Rattle.answers.proofs.Theorems.{is-reason, has-reason, done-when, hands-out}
 use Rattle.markers.proofs.Marks.{Marks}
 use Rattle.markers.proofs.Live.{Live, live-none}
 use Rattle.markers.proofs.Safe.{small, Bounded, WellMade, safe-run}

@@ -13,15 +13,15 @@ use Rattle.event.specs.declared.Event.{Event}
 use Rattle.event.specs.declared.Event.the-variants.{Start, Finish, Token, Error, NoEvent}
 use Rattle.event.specs.Event.{holds, isStart, isBare, withKind}
 use Rattle.laws.proofs.Tests.{by-test, apart}
-use Rattle.runtime.specs.Input.{Env}
+use Rattle.input.specs.Input.{Env}
 use Rattle.runtime.specs.State.{St, view, new, live, added, rewritten, refuse, eventAt, pushEvent, named, Fit}
 use Rattle.runtime.specs.Cover.{events}
 use Rattle.runtime.specs.Acts.{Act.starts, Acts, step, run, _>>=_, _>>_, complete}
 use Rattle.runtime.proofs.Kept.{kept-step}
 use Rattle.runtime.proofs.Laws.{run-bind}
 use Rattle.runtime.proofs.Runs.{fits, Held, helds, held-run, refused-run}
-use Rattle.runtime.proofs.Covered.{events-added}
-use Rattle.grammar.specs.Operators.{Table}
+use Rattle.runs.proofs.Covered.{events-added}
+use Rattle.operators.specs.Operators.{Table}
 use Rattle.grammar.specs.Items.{sourceFileContents}
 use Rattle.grammar.specs.Entry.{counted, deepest, sourceFile}
 use Rattle.markers.proofs.Balance.{Balanced}

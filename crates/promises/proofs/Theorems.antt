@@ -12,13 +12,13 @@ use Rattle.event.specs.declared.Event.{Event}
 use Rattle.event.specs.declared.Event.the-variants.{Start, Finish, NoEvent}
 use Rattle.event.specs.Event.{eventsOf, wordsOf, tombstone}
 use Rattle.event.proofs.Rooms.{events-words}
-use Rattle.runtime.specs.Input.{env}
+use Rattle.input.specs.Input.{env}
 use Rattle.runtime.specs.State.{view, new}
 use Rattle.runtime.specs.Cover.{events}
 use Rattle.runtime.specs.Acts.{run}
 use Rattle.runtime.proofs.Runs.{inside-run}
-use Rattle.runtime.proofs.Covered.{covered}
-use Rattle.grammar.specs.Operators.{tableOf}
+use Rattle.runs.proofs.Covered.{covered}
+use Rattle.operators.specs.Operators.{tableOf}
 use Rattle.records.specs.declared.Step.the-variants.{Enter as enter}
 use Rattle.records.specs.Record.{bytes, over}
 use Rattle.stepfile.specs.Answer as S
@@ -33,13 +33,13 @@ use Rattle.events.proofs.Theorems.{passing-resolves, passing-closes, entered-on
 use Rattle.parse.specs.declared.Entry.{Entry}
 use Rattle.parse.specs.declared.Entry.the-variants.{SourceFile}
 use Rattle.parse.specs.Parse.{Lent, Outcome, notPermitted, actsOf, ran, leaves, parsed}
-use Rattle.parse.proofs.Theorems.{hands-out}
+use Rattle.answers.proofs.Theorems.{hands-out}
 use Rattle.markers.proofs.Balance.{Balanced}
 use Rattle.markers.proofs.Marks.{Marker.fresh, Marker.made, Marker.shut, Marks}
 use Rattle.markers.proofs.Safe.{Safe}
 use Rattle.markers.proofs.Discipline.{Orderly, safe-orderly}
 use Rattle.markers.proofs.Calculus.{weaken, Opens, Opens.base, Opens.extra}
-use Rattle.parse.specs.Handed.{handed, stepsIn}
+use Rattle.answers.specs.Handed.{handed, stepsIn}
 use Rattle.promises.specs.Promised.{CoverSteps, rawSum, Rooted}
 use Rattle.promises.proofs.Passing.{Chain, scan-passes, live-passes}
 use Rattle.promises.proofs.Done.{kinds-small, orderly, fit-new, begins, holds-none, bounded, ended, well-made, event-count, few-events, handed-list}

@@ -11,23 +11,15 @@ use lib.Seq.{getD-set-same, getD-set-other}
 use lib.Dec.{eqb, ltb}
 use borrow.Author.Tests.{ltb-true, ltb-false, eqb-true, eqb-false}
 use Rattle.runtime.specs.declared.parser.Parser.{Parser}
-use Rattle.runtime.specs.declared.input.Parts.{Parts}
-use Rattle.runtime.specs.declared.input.Parts.the-variants.{One, Two, Three}
-use Rattle.runtime.specs.Input.{Env}
-use Rattle.runtime.specs.Glue.{rawCount}
+use Rattle.input.specs.Input.{Env, mostTokens}
 use Rattle.event.specs.declared.Event.{Event}
 use Rattle.event.specs.declared.Event.the-variants.{Token, NoEvent}
 use Rattle.laws.proofs.Tests.{by-test}
-use Rattle.runtime.specs.State.{St, mostTokens, mostLooks, refusal, counted, consumed, Fit}
+use Rattle.input.proofs.Reading.{few-parts}
+use Rattle.runtime.specs.State.{St, mostLooks, refusal, counted, consumed, Fit}
 use Rattle.runtime.specs.Cover.{Stands}
 use Rattle.runtime.specs.Acts.{Acts, run, left}
 use Rattle.runtime.proofs.Kept.{Kept, kept-run}
-
--- a token is made of one, two or three
-pub few-parts : (g : Parts) → (1 ≤ rawCount g) × (rawCount g ≤ 3)
-few-parts (One a) = omega arith
-few-parts (Two a b) = omega arith
-few-parts (Three a b c) = omega arith
 
 some-tokens : {e : Env} {i k n : ℕ} → Stands e i k n → 1 ≤ n
 some-tokens t = omega (arith, t .many, few-parts (t .parts) .0)

@@ -1,5 +1,4 @@
 // The parser's state and operations: src/parser.rs. Each operation hands the state back, and is proved equal to its acts.
-use crate::input;
 use event::EVENT_WORDS;
 use event::Event;
 use kinds::sets::Fixed;
@@ -7,7 +6,7 @@ use kinds::syntax_kind_enum as k;
 ghost use mathlib.Core.Path.{_≡_};
 ghost use Prim.Native.Nat.{_+_, _≤_, _<_};
 ghost use Rattle.kinds.specs.Sets.{kindsOf};
-ghost use Rattle.runtime.specs.Input.{env};
+ghost use Rattle.input.specs.Input.{env};
 ghost use Rattle.event.specs.Event.{Sound, isStart, isBare};
 ghost use Rattle.runtime.specs.State as state;
 ghost use Rattle.runtime.specs.State.{view, Fit, Begins, Moves, eventAt};

@@ -1,6 +1,6 @@
 -- `kind_at` meets its contract: a run that is not refused sees the kind. Assumes nothing.
 use borrow.Author.Needs.{needs}
-use Rattle.runtime.specs.Input.{seen}
+use Rattle.input.specs.Input.{seen}
 use Rattle.lookahead.proofs.kind_at.Statement.{statement}
 use Rattle.lookahead.proofs.kind_at.Tie as tie
 

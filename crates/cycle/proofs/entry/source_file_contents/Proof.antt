@@ -3,11 +3,11 @@
 use mathlib.Core.Bool.{false}
 use mathlib.Core.Path.{_≡_, refl, sym, _∙_}
 use lib.ListN.{length}
-use Rattle.runtime.specs.Input.{env}
+use Rattle.input.specs.Input.{env}
 use Rattle.runtime.specs.State.{view}
 use Rattle.runtime.specs.Acts as acts
 use Rattle.runtime.proofs.Laws.{then, see, ends, falls, left-on, Ran, ran-none, ran-more, ran-done}
-use Rattle.grammar.specs.Operators.{tableOf}
+use Rattle.operators.specs.Operators.{tableOf}
 use Rattle.grammar.specs.Items as I
 use Rattle.grammar.specs.Entry.{counted}
 use Rattle.cycle.proofs.Depth.{item-spends}

@@ -3,8 +3,8 @@ use Prim.Native.Nat.{_+_}
 use mathlib.Core.Path.{_≡_, sym, _∙_}
 use native.Mathlib.Omega.{arith}
 use borrow.Author.Needs.{needs}
-use Rattle.runtime.specs.Input.{env}
-use Rattle.runtime.proofs.Plain.{plain-stands}
+use Rattle.input.specs.Input.{env}
+use Rattle.input.proofs.Plain.{plain-stands}
 use Rattle.runtime.proofs.parser.Parser.at.Statement.{statement}
 use Rattle.runtime.proofs.parser.Parser.at.Tie as tie
 

@@ -1,8 +1,8 @@
 -- `parser::Parser::eat` meets its contract. Assumes nothing.
 use borrow.Author.Needs.{needs}
 use native.Mathlib.Omega.{arith}
-use Rattle.runtime.specs.Glue.{partsOf}
-use Rattle.runtime.proofs.Runs.{few-parts}
+use Rattle.input.specs.Glue.{partsOf}
+use Rattle.input.proofs.Reading.{few-parts}
 use Rattle.runtime.proofs.Cases.{eat-done, eat-other}
 use Rattle.runtime.proofs.parser.Parser.eat.Statement.{statement}
 use Rattle.runtime.proofs.parser.Parser.eat.Tie as tie

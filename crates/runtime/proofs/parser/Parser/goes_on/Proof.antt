@@ -3,7 +3,7 @@ use borrow.Author.Needs.{needs}
 use mathlib.Core.Path.{sym, _∙_}
 use mathlib.Core.Path.{ap}
 use mathlib.Core.Bool.{not}
-use Rattle.runtime.proofs.Cases.{on, off}
+use Rattle.laws.proofs.Tests.{on, off}
 use Rattle.runtime.proofs.parser.Parser.goes_on.Statement.{statement}
 use Rattle.runtime.proofs.parser.Parser.goes_on.Tie as tie
 

@@ -1,9 +1,9 @@
 -- `parser::Parser::nth_at` meets its contract: a kind of one token is looked at by itself. Assumes nothing.
 use borrow.Author.Needs.{needs}
 use mathlib.Core.Path.{sym, ap, _∙_}
-use Rattle.runtime.specs.Input.{env}
-use Rattle.runtime.specs.Glue.{standsAt}
-use Rattle.runtime.proofs.Plain.{plain-stands}
+use Rattle.input.specs.Input.{env}
+use Rattle.input.specs.Glue.{standsAt}
+use Rattle.input.proofs.Plain.{plain-stands}
 use Rattle.runtime.proofs.parser.Parser.nth_at.Statement.{statement}
 use Rattle.runtime.proofs.parser.Parser.nth_at.Tie as tie
 

@@ -1,0 +1,4 @@
+pub mod Reached
+pub mod Theorems
+pub mod Lent
+pub mod Rows
