@@ -25,6 +25,8 @@ pub record Later : Type 0 where
   pub optItem : ℕ → Acts Bool
 
 -- fn type_name, line 367
+-- runs: item `int`
+-- breaks: item `input`, item `input a`
 unfoldable pub typeName : Acts (Unit {0})
 typeName = do
   k ← current
@@ -125,6 +127,8 @@ argsEnd m m1 = do
   just (complete m ARG-LIST)
 
 -- fn var_name, line 484
+-- runs: item `int a`
+-- breaks: item `int`, item `int 3`
 unfoldable pub varName : Acts (Unit {0})
 varName = do
   m ← start
@@ -134,10 +138,14 @@ varName = do
 
 module _ (deeper : Counted) where
   -- fn expr, line 14: whether the expression is block-like is not read by its callers
+  -- runs: expr `a`
+  -- breaks: expr ``, expr `-`
   abbrev pub expr : Acts Got
   expr = deeper .exprBp Fresh false 1
 
   -- fn range_expr, line 20: no caller reads its answer
+  -- runs: item `for i [a:b]`, item `for int i in [0:2:4];`
+  -- breaks: item `for i [a]`, item `for i [a:b`, item `for i []`
   unfoldable pub rangeExpr : Acts (Unit {0})
   rangeExpr = do
     m ← start
@@ -156,6 +164,8 @@ module _ (deeper : Counted) where
     just (complete m RANGE-EXPR)
 
   -- fn expr_or_range_expr, line 40: no caller reads its answer
+  -- runs: expr `a[1`, expr `a[1:b:c]`
+  -- breaks: expr `a[1:`, expr `a[-`
   unfoldable pub exprOrRangeExpr : Acts (Unit {0})
   exprOrRangeExpr = do
     m ← start
@@ -171,10 +181,14 @@ module _ (deeper : Counted) where
       just (complete m RANGE-EXPR)) (abandon m)
 
   -- fn expr_stmt, line 58
+  -- runs: item `a`
+  -- breaks: item `-`, item `a = ;`
   abbrev pub exprStmt : Mark → Acts Got
   exprStmt m = deeper .exprBp m true 1
 
   -- fn let_stmt, line 125
+  -- runs: expr `{let a = b;`
+  -- breaks: expr `{let`, expr `{let a = b`, expr `{let $0 = b;`
   unfoldable pub letStmt : ℕ → Acts (Unit {0})
   letStmt m = do
     bump LET-KW
@@ -185,6 +199,8 @@ module _ (deeper : Counted) where
     just (complete m LET-STMT)
 
   -- fn expr_block_contents, line 139: a round of its loop, and the whole
+  -- runs: item `;`, expr `{}`
+  -- breaks: item `)`, item `a`
   unfoldable pub exprBlockContentsRound : Unit {0} → Acts (Turn (Unit {0}))
   exprBlockContentsRound x = do
     go ← goesOn R-CURLY
@@ -196,6 +212,8 @@ module _ (deeper : Counted) where
   exprBlockContents = repeats exprBlockContentsRound tt
 
   -- fn designator, line 458
+  -- runs: item `int[1]`
+  -- breaks: item `delay`, item `int[`, item `int[1.0]`
   unfoldable pub designator : Acts (Unit {0})
   designator = do
     must L-BRACK
@@ -207,6 +225,8 @@ module _ (deeper : Counted) where
     just (complete m DESIGNATOR)
 
   -- fn non_array_type_spec, line 414
+  -- runs: item `int`, item `int[1]`
+  -- breaks: item `input`, item `int[`
   unfoldable pub nonArrayTypeSpec : Acts (Unit {0})
   nonArrayTypeSpec = do
     b ← at COMPLEX-TY
@@ -219,6 +239,8 @@ module _ (deeper : Counted) where
 
   -- fn array_type_spec, line 386: a round of its loop, and the whole. A run that is refused ends the loop, which has no other end at
   -- the last token.
+  -- runs: item `array[int, 2]`, item `array[float[64], 2, 3]`
+  -- breaks: item `array`, item `array[int,`, item `array[bit]`
   unfoldable pub arrayTypeSpecRound : Unit {0} → Acts (Turn (Unit {0}))
   arrayTypeSpecRound x = do
     expr
@@ -243,12 +265,16 @@ module _ (deeper : Counted) where
     just (complete m ARRAY-TYPE)
 
   -- fn type_spec, line 378
+  -- runs: item `int`
+  -- breaks: item `input`, item `array`
   unfoldable pub typeSpec : Acts (Unit {0})
   typeSpec = do
     b ← at ARRAY-KW
     cond b arrayTypeSpec nonArrayTypeSpec
 
   -- fn complex_type_spec, line 428
+  -- runs: item `complex`, item `complex[float[64]]`
+  -- breaks: item `complex[int]`, item `complex[float`
   unfoldable pub complexTypeSpec : Acts (Unit {0})
   complexTypeSpec = do
     must COMPLEX-TY
@@ -263,6 +289,8 @@ module _ (deeper : Counted) where
     just (complete m SCALAR-TYPE)
 
   -- fn qubit_type_spec, line 444
+  -- runs: item `qubit`, item `qubit[2]`
+  -- breaks: item `qubit[`, item `qubit[2] $0`
   unfoldable pub qubitTypeSpec : Acts (Unit {0})
   qubitTypeSpec = do
     must QUBIT-KW
@@ -275,6 +303,8 @@ module _ (deeper : Counted) where
     just (complete m QUBIT-TYPE)
 
   -- fn set_expression, line 513
+  -- runs: item `for {1}`, expr `a[{1, 2}]`
+  -- breaks: item `for {`, expr `a[{1`, item `for {}`
   unfoldable pub setExpression : Acts (Unit {0})
   setExpression = do
     must L-CURLY
@@ -285,6 +315,8 @@ module _ (deeper : Counted) where
     just (complete m SET-EXPRESSION)
 
   -- fn index_operator, line 522
+  -- runs: expr `a[1]`, expr `a[{1}]`
+  -- breaks: expr `a[`, expr `a[1`
   unfoldable pub indexOperator : Acts (Unit {0})
   indexOperator = do
     must L-BRACK
@@ -296,6 +328,8 @@ module _ (deeper : Counted) where
     just (complete m INDEX-OPERATOR)
 
   -- fn index_expr, line 497
+  -- runs: expr `1[1]`, expr `f()[1]`
+  -- breaks: expr `1[`, expr `1[1`
   unfoldable pub indexExpr : Completed → Acts Completed
   indexExpr lhs = do
     must L-BRACK
@@ -305,6 +339,8 @@ module _ (deeper : Counted) where
 
   -- fn indexed_identifier, line 504: a round of its loop, and the whole. Its `&& !p.at(EOF)` decides nothing: where `[` stands the
   -- tokens have not ended.
+  -- runs: expr `a[1]`, expr `a[1][2]`
+  -- breaks: expr `a[`, expr `a[1][`, expr `a[{`
   unfoldable pub indexedIdentifierRound : Unit {0} → Acts (Turn (Unit {0}))
   indexedIdentifierRound x = do
     b ← at L-BRACK
@@ -327,6 +363,8 @@ module _ (deeper : Counted) where
         indexExpr lhs)
 
   -- fn call_arg_list, line 537
+  -- runs: expr `a()`, expr `a(b, 1)`
+  -- breaks: expr `a(`, expr `a(1`, expr `a(1 2)`
   unfoldable pub callArgList : Acts (Unit {0})
   callArgList = do
     must L-PAREN
@@ -338,6 +376,8 @@ module _ (deeper : Counted) where
 
   module _ (later : Later) where
     -- fn call_expr, line 352
+    -- runs: expr `a()`, expr `a() q`
+    -- breaks: expr `a(`, expr `a() q r`
     unfoldable pub callExpr : Completed → Acts Completed
     callExpr lhs = do
       must L-PAREN
@@ -350,6 +390,8 @@ module _ (deeper : Counted) where
 
     -- fn postfix_expr, line 320: a round of its loop, which carries the expression so far, whether it is block-like and whether calls
     -- are allowed, as both its arms ask; and the whole
+    -- runs: expr `a`, expr `a(b)[1]`
+    -- breaks: expr `1[1]`, expr `1 ns[1]`, expr `$0[1]`
     unfoldable pub postfixExprRound : Completed × Bool × Bool → Acts (Turn (Completed × Bool × Bool))
     postfixExprRound x = do
       k ← current
@@ -365,6 +407,8 @@ module _ (deeper : Counted) where
       done (Is (x .0) (x .1))
 
     -- fn lhs, line 298
+    -- runs: expr `a`, expr `!a`
+    -- breaks: expr `-`, expr `*`
     unfoldable pub lhs : Bool → Acts Got
     lhs prefer = do
       k ← current
@@ -379,6 +423,8 @@ module _ (deeper : Counted) where
 
     module _ (ops : Table) where
       -- fn expr_bp, line 218: a round of its loop, and the whole
+      -- runs: expr `a`, expr `a + b * c`, item `a = b;`
+      -- breaks: expr ``, expr `a = b`, item `a = b`, item `1 = 2`
       unfoldable pub exprBpRound : Bool → ℕ → Completed → Acts (Turn Completed)
       exprBpRound prefer bp lhs = do
         o ← currentOp ops
@@ -410,6 +456,8 @@ module _ (deeper : Counted) where
             ])
 
     -- fn stmt, line 70
+    -- runs: item `;`, item `a;`, item `PRAGMA ANNOTATION`
+    -- breaks: item `)`, item `a`
     unfoldable pub stmt : Acts (Unit {0})
     stmt = do
       b ← eat SEMICOLON
