@@ -9,11 +9,20 @@ use std::cell::OnceCell;
 use std::collections::BTreeMap;
 use std::io::BufRead;
 
-/// The functions that a case calls. A loop that spins is found sooner than the port finds it: no short list looks so often otherwise.
+/// A loop that spins is found sooner than the port finds it: no short list looks so often otherwise.
+const BOUNDS: Bounds = Bounds { lookups: 999, ..LOOKUPS };
+
+/// The functions that a case calls.
 fn noted(case: &Case) -> BTreeMap<&'static str, Noted> {
     calls::noted(|| {
-        oq3_called::entries::parse(case.entry, &case.kinds, &case.joints, Bounds { lookups: 999, ..LOOKUPS });
+        oq3_called::entries::parse(case.entry, &case.kinds, &case.joints, BOUNDS);
     })
+}
+
+/// Whether the build that notes its calls does with a case what the oracle does.
+fn agrees(case: &Case) -> bool {
+    let crates = oq3_parser::entries::parse(case.entry, &case.kinds, &case.joints, BOUNDS);
+    crates == oq3_called::entries::parse(case.entry, &case.kinds, &case.joints, BOUNDS)
 }
 
 /// What short lists are known to do, by function: the first, and so a shortest, that runs it, and one that breaks it.
@@ -89,6 +98,9 @@ fn row(row: &str, short: &OnceCell<Short>) -> Result<Vec<String>, String> {
     };
     let entry = Entry::of(entry).ok_or("no entry")?;
     let case = Case::of(entry, &text::tokens(said).ok_or("no tokens")?);
+    if !agrees(&case) {
+        return Err("the build that notes its calls does not do what the oracle does".to_string());
+    }
     let noted = noted(&case);
     if what == "calls" {
         return Ok(noted.into_keys().map(str::to_string).collect());

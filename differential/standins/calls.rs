@@ -28,6 +28,7 @@ thread_local! {
 
 /// What a run on this thread calls, by where each function begins.
 pub fn noted(run: impl FnOnce()) -> BTreeMap<&'static str, Noted> {
+    NOTED.take();
     run();
     NOTED.take()
 }
