@@ -20,6 +20,8 @@ use Rattle.grammar.specs.Expressions.{expr, exprBlockContents, callArgLi
 use Rattle.grammar.specs.Params.{argGateCallQubit, argListGateCallQubits}
 
 -- fn identifier, line 242
+-- runs: expr `a`
+-- breaks: expr `inv @`, expr `inv @ 3`
 unfoldable pub identifier : Acts Completed
 identifier = do
   m ← start
@@ -27,6 +29,8 @@ identifier = do
   complete m IDENTIFIER
 
 -- fn hardware_qubit, line 248
+-- runs: expr `$0`
+-- breaks: never
 unfoldable pub hardwareQubit : Acts Completed
 hardwareQubit = do
   m ← start
@@ -50,6 +54,8 @@ node m = do
   done (Is cm (isBlocklike (cm .kind)))
 
 -- fn literal, line 22: a literal is never block-like
+-- runs: expr `1`, expr `1 ns`
+-- breaks: expr `"x"`, expr `true ns`
 unfoldable pub literal : Acts Got
 literal = do
   first ← atTs LITERAL-FIRST
@@ -126,6 +132,8 @@ arrayEnd m = do
 
 module _ (deeper : Counted) where
   -- fn cast_expr, line 125
+  -- runs: expr `int(a)`
+  -- breaks: expr `int[1]`, expr `int(a`, expr `int(`
   unfoldable pub castExpr : Acts Completed
   castExpr = do
     m ← start
@@ -136,6 +144,8 @@ module _ (deeper : Counted) where
     complete m CAST-EXPRESSION
 
   -- fn gphase_call_expr, line 134
+  -- runs: expr `gphase a`
+  -- breaks: expr `gphase`
   unfoldable pub gphaseCallExpr : Acts Completed
   gphaseCallExpr = do
     must GPHASE-KW
@@ -145,6 +155,8 @@ module _ (deeper : Counted) where
     complete m G-PHASE-CALL-EXPR
 
   -- fn gate_call_expr, line 214
+  -- runs: expr `g q`, expr `inv @ g(a) q`
+  -- breaks: expr `inv @`, expr `g q 3`
   unfoldable pub gateCallExpr : Acts Completed
   gateCallExpr = do
     m ← start
@@ -170,6 +182,8 @@ module _ (deeper : Counted) where
     just (complete m1 node)
 
   -- fn modified_gate_call_expr, line 142: a round of its loop, and the whole
+  -- runs: expr `inv @ g`, expr `pow(2) @ ctrl @ negctrl(1) @ gphase(a)`
+  -- breaks: expr `inv g`, expr `inv(1) @ g`, expr `pow g`, expr `ctrl(1 g`
   unfoldable pub modifiedGateCallExprRound : Unit {0} → Acts (Turn (Unit {0}))
   modifiedGateCallExprRound x = do
     k ← current
@@ -187,6 +201,8 @@ module _ (deeper : Counted) where
     complete m MODIFIED-GATE-CALL-EXPR
 
   -- fn measure_expression, line 224
+  -- runs: expr `measure q`
+  -- breaks: expr `measure`, expr `measure 1`
   unfoldable pub measureExpression : Acts Completed
   measureExpression = do
     m ← start
@@ -198,6 +214,8 @@ module _ (deeper : Counted) where
     complete m MEASURE-EXPRESSION
 
   -- fn tuple_expr, line 258: a round of its loop, which carries saw_expr and saw_comma, and the whole
+  -- runs: expr `()`, expr `(a, b)`
+  -- breaks: expr `(`, expr `(,)`, expr `(1 2)`
   unfoldable pub tupleExprRound : Bool × Bool → Acts (Turn (Bool × Bool))
   tupleExprRound x = do
     go ← goesOn R-PAREN
@@ -220,6 +238,8 @@ module _ (deeper : Counted) where
     tupleEnd m (x .0) (x .1)
 
   -- fn array_expr, line 294: a round of its loop, which carries whether n_exprs is still 0 and has_semi, and the whole
+  -- runs: expr `[]`, expr `[a; b]`, expr `[a, b]`
+  -- breaks: expr `[`, expr `[1 2]`, expr `[;]`
   unfoldable pub arrayExprRound : Bool × Bool → Acts (Turn (Bool × Bool))
   arrayExprRound x = do
     go ← goesOn R-BRACK
@@ -245,6 +265,8 @@ module _ (deeper : Counted) where
     arrayEnd m
 
   -- fn block_expr, line 332
+  -- runs: expr `{}`
+  -- breaks: expr `{`, expr `{)}`
   unfoldable pub blockExpr : Acts Completed
   blockExpr = do
     must L-CURLY
@@ -255,12 +277,16 @@ module _ (deeper : Counted) where
     complete m BLOCK-EXPR
 
   -- fn try_block_expr, line 324
+  -- runs: item `cal {}`
+  -- breaks: item `cal`, item `cal {`
   unfoldable pub tryBlockExpr : Acts (Unit {0})
   tryBlockExpr = do
     b ← at L-CURLY
     cond b (just blockExpr) (fail EXPECTED-A-BLOCK)
 
   -- fn return_expr, line 347
+  -- runs: expr `return`, expr `return a`
+  -- breaks: expr `return (`
   unfoldable pub returnExpr : Acts Completed
   returnExpr = do
     must RETURN-KW
@@ -271,6 +297,8 @@ module _ (deeper : Counted) where
     complete m RETURN-EXPR
 
   -- fn box_expr, line 358: its marker m is always None
+  -- runs: expr `box`, expr `box {}`
+  -- breaks: expr `box {`
   unfoldable pub boxExpr : Acts Completed
   boxExpr = do
     must BOX-KW
@@ -281,6 +309,8 @@ module _ (deeper : Counted) where
     complete m BOX-EXPR
 
   -- fn atom_expr, line 80: the match on the token here, of which `la` is the next
+  -- runs: expr `a`, expr `1`
+  -- breaks: expr `*`, expr `(`
   unfoldable pub atomOf : ℕ → ℕ → Acts Got
   atomOf k la =
       cond (eqb k HARDWAREIDENT) (node hardwareQubit)

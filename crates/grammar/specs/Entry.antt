@@ -44,6 +44,8 @@ abbrev pub deepest : ℕ
 deepest = 64
 
 -- fn source_file, line 57
+-- runs: source ``, source `;`
+-- breaks: source `}`
 unfoldable pub sourceFile : Table → Acts (Unit {0})
 sourceFile ops = do
   m ← start

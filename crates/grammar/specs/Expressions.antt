@@ -27,6 +27,8 @@ pub record Later : Type 0 where
   pub optItem : ℕ → Acts Offer
 
 -- fn type_name, line 367
+-- runs: item `int`
+-- breaks: item `input`, item `input a`
 unfoldable pub typeName : Acts (Unit {0})
 typeName = do
   k ← current
@@ -127,6 +129,8 @@ argsEnd m m1 = do
   just (complete m ARG-LIST)
 
 -- fn var_name, line 484
+-- runs: item `int a`
+-- breaks: item `int`, item `int 3`
 unfoldable pub varName : Acts (Unit {0})
 varName = do
   m ← start
@@ -136,10 +140,14 @@ varName = do
 
 module _ (deeper : Counted) where
   -- fn expr, line 14: whether the expression is block-like is not read by its callers
+  -- runs: expr `a`
+  -- breaks: expr ``, expr `-`
   abbrev pub expr : Acts Got
   expr = deeper .exprBp Fresh false 1
 
   -- fn range_expr, line 20: no caller reads its answer
+  -- runs: item `for i [a:b]`, item `for int i in [0:2:4];`
+  -- breaks: item `for i [a]`, item `for i [a:b`, item `for i []`
   unfoldable pub rangeExpr : Acts (Unit {0})
   rangeExpr = do
     m ← start
@@ -158,6 +166,8 @@ module _ (deeper : Counted) where
     just (complete m RANGE-EXPR)
 
   -- fn expr_or_range_expr, line 40: no caller reads its answer
+  -- runs: expr `a[1`, expr `a[1:b:c]`
+  -- breaks: expr `a[1:`, expr `a[-`
   unfoldable pub exprOrRangeExpr : Acts (Unit {0})
   exprOrRangeExpr = do
     m ← start
@@ -173,10 +183,14 @@ module _ (deeper : Counted) where
       just (complete m RANGE-EXPR)) (abandon m)
 
   -- fn expr_stmt, line 58
+  -- runs: item `a`
+  -- breaks: item `-`, item `a = ;`
   abbrev pub exprStmt : Mark → Acts Got
   exprStmt m = deeper .exprBp m true 1
 
   -- fn let_stmt, line 125
+  -- runs: expr `{let a = b;`
+  -- breaks: expr `{let`, expr `{let a = b`, expr `{let $0 = b;`
   unfoldable pub letStmt : ℕ → Acts (Unit {0})
   letStmt m = do
     bump LET-KW
@@ -187,6 +201,8 @@ module _ (deeper : Counted) where
     just (complete m LET-STMT)
 
   -- fn expr_block_contents, line 139: a round of its loop, and the whole
+  -- runs: item `;`, expr `{}`
+  -- breaks: item `)`, item `a`
   unfoldable pub exprBlockContentsRound : Unit {0} → Acts (Turn (Unit {0}))
   exprBlockContentsRound x = do
     go ← goesOn R-CURLY
@@ -198,6 +214,8 @@ module _ (deeper : Counted) where
   exprBlockContents = repeats exprBlockContentsRound tt
 
   -- fn designator, line 458
+  -- runs: item `int[1]`
+  -- breaks: item `delay`, item `int[`, item `int[1.0]`
   unfoldable pub designator : Acts (Unit {0})
   designator = do
     must L-BRACK
@@ -209,6 +227,8 @@ module _ (deeper : Counted) where
     just (complete m DESIGNATOR)
 
   -- fn non_array_type_spec, line 414
+  -- runs: item `int`, item `int[1]`
+  -- breaks: item `input`, item `int[`
   unfoldable pub nonArrayTypeSpec : Acts (Unit {0})
   nonArrayTypeSpec = do
     b ← at COMPLEX-TY
@@ -221,6 +241,8 @@ module _ (deeper : Counted) where
 
   -- fn array_type_spec, line 386: a round of its loop, and the whole. A run that is refused ends the loop, which has no other end at
   -- the last token.
+  -- runs: item `array[int, 2]`, item `array[float[64], 2, 3]`
+  -- breaks: item `array`, item `array[int,`, item `array[bit]`
   unfoldable pub arrayTypeSpecRound : Unit {0} → Acts (Turn (Unit {0}))
   arrayTypeSpecRound x = do
     expr
@@ -245,12 +267,16 @@ module _ (deeper : Counted) where
     just (complete m ARRAY-TYPE)
 
   -- fn type_spec, line 378
+  -- runs: item `int`
+  -- breaks: item `input`, item `array`
   unfoldable pub typeSpec : Acts (Unit {0})
   typeSpec = do
     b ← at ARRAY-KW
     cond b arrayTypeSpec nonArrayTypeSpec
 
   -- fn complex_type_spec, line 428
+  -- runs: item `complex`, item `complex[float[64]]`
+  -- breaks: item `complex[int]`, item `complex[float`
   unfoldable pub complexTypeSpec : Acts (Unit {0})
   complexTypeSpec = do
     must COMPLEX-TY
@@ -265,6 +291,8 @@ module _ (deeper : Counted) where
     just (complete m SCALAR-TYPE)
 
   -- fn qubit_type_spec, line 444
+  -- runs: item `qubit`, item `qubit[2]`
+  -- breaks: item `qubit[`, item `qubit[2] $0`
   unfoldable pub qubitTypeSpec : Acts (Unit {0})
   qubitTypeSpec = do
     must QUBIT-KW
@@ -277,6 +305,8 @@ module _ (deeper : Counted) where
     just (complete m QUBIT-TYPE)
 
   -- fn set_expression, line 513
+  -- runs: item `for {1}`, expr `a[{1, 2}]`
+  -- breaks: item `for {`, expr `a[{1`, item `for {}`
   unfoldable pub setExpression : Acts (Unit {0})
   setExpression = do
     must L-CURLY
@@ -287,6 +317,8 @@ module _ (deeper : Counted) where
     just (complete m SET-EXPRESSION)
 
   -- fn index_operator, line 522
+  -- runs: expr `a[1]`, expr `a[{1}]`
+  -- breaks: expr `a[`, expr `a[1`
   unfoldable pub indexOperator : Acts (Unit {0})
   indexOperator = do
     must L-BRACK
@@ -298,6 +330,8 @@ module _ (deeper : Counted) where
     just (complete m INDEX-OPERATOR)
 
   -- fn index_expr, line 497
+  -- runs: expr `1[1]`, expr `f()[1]`
+  -- breaks: expr `1[`, expr `1[1`
   unfoldable pub indexExpr : Completed → Acts Completed
   indexExpr lhs = do
     must L-BRACK
@@ -307,6 +341,8 @@ module _ (deeper : Counted) where
 
   -- fn indexed_identifier, line 504: a round of its loop, and the whole. Its `&& !p.at(EOF)` decides nothing: where `[` stands the
   -- tokens have not ended.
+  -- runs: expr `a[1]`, expr `a[1][2]`
+  -- breaks: expr `a[`, expr `a[1][`, expr `a[{`
   unfoldable pub indexedIdentifierRound : Unit {0} → Acts (Turn (Unit {0}))
   indexedIdentifierRound x = do
     b ← at L-BRACK
@@ -329,6 +365,8 @@ module _ (deeper : Counted) where
         indexExpr lhs)
 
   -- fn call_arg_list, line 537
+  -- runs: expr `a()`, expr `a(b, 1)`
+  -- breaks: expr `a(`, expr `a(1`, expr `a(1 2)`
   unfoldable pub callArgList : Acts (Unit {0})
   callArgList = do
     must L-PAREN
@@ -340,6 +378,8 @@ module _ (deeper : Counted) where
 
   module _ (later : Later) where
     -- fn call_expr, line 352
+    -- runs: expr `a()`, expr `a() q`
+    -- breaks: expr `a(`, expr `a() q r`
     unfoldable pub callExpr : Completed → Acts Completed
     callExpr lhs = do
       must L-PAREN
@@ -352,6 +392,8 @@ module _ (deeper : Counted) where
 
     -- fn postfix_expr, line 320: a round of its loop, which carries the expression so far, whether it is block-like and whether calls
     -- are allowed, as both its arms ask; and the whole
+    -- runs: expr `a`, expr `a(b)[1]`
+    -- breaks: expr `1[1]`, expr `1 ns[1]`, expr `$0[1]`
     unfoldable pub postfixExprRound : Completed × Bool × Bool → Acts (Turn (Completed × Bool × Bool))
     postfixExprRound x = do
       k ← current
@@ -367,6 +409,8 @@ module _ (deeper : Counted) where
       done (Is (x .0) (x .1))
 
     -- fn lhs, line 298
+    -- runs: expr `a`, expr `!a`
+    -- breaks: expr `-`, expr `*`
     unfoldable pub lhs : Bool → Acts Got
     lhs prefer = do
       k ← current
@@ -381,6 +425,8 @@ module _ (deeper : Counted) where
 
     module _ (ops : Table) where
       -- fn expr_bp, line 218: a round of its loop, and the whole
+      -- runs: expr `a`, expr `a + b * c`, item `a = b;`
+      -- breaks: expr ``, expr `a = b`, item `a = b`, item `1 = 2`
       unfoldable pub exprBpRound : Bool → ℕ → Completed → Acts (Turn Completed)
       exprBpRound prefer bp lhs = do
         o ← currentOp ops
@@ -430,6 +476,8 @@ module _ (deeper : Counted) where
                   elim g [ Nothing ↦ done tt | Is cm block ↦ stmtEnd cm block ])))
 
     -- fn stmt, line 70
+    -- runs: item `;`, item `a;`, item `PRAGMA ANNOTATION`
+    -- breaks: item `)`, item `a`
     unfoldable pub stmt : Acts (Unit {0})
     stmt = do
       b ← eat SEMICOLON

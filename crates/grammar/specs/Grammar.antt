@@ -60,10 +60,14 @@ failUnlessAt k code = do
   when (not b) (fail code)
 
 -- fn is_blocklike, line 91
+-- runs: expr `a`
+-- breaks: never
 abbrev pub isBlocklike : ℕ → Bool
 isBlocklike k = eqb k BLOCK-EXPR
 
 -- fn name_r, line 130
+-- runs: item `gate g`, item `gate $0`
+-- breaks: item `gate`, item `gate 3`, item `gate;`
 unfoldable pub nameR : List ℕ → Acts (Unit {0})
 nameR recovery = do
   b ← at HARDWAREIDENT
@@ -78,11 +82,15 @@ nameR recovery = do
         just (complete m NAME)) (errRecover EXPECTED-A-NAME recovery))
 
 -- fn name, line 150
+-- runs: item `for i`
+-- breaks: item `for`, item `for int 3`
 abbrev pub name : Acts (Unit {0})
 name = nameR EMPTY
 
 -- fn delimited, line 156: after an element, whether another one is to follow; a round of its loop; and the whole. The loop's two
 -- tests change nothing, so their order is not told.
+-- runs: expr `a(`, expr `a(b, 1)`
+-- breaks: expr `a(1 2)`, expr `a(;`
 unfoldable pub separator : ℕ → List ℕ → Acts Bool
 separator delim first = do
   b ← at delim
@@ -122,6 +130,8 @@ scalarReturn = do
 
 module _ (deeper : Counted) where
   -- fn opt_ret_type, line 107: no caller reads its answer
+  -- runs: item `def`, item `def f() -> bit[2] {}`
+  -- breaks: item `def f -> a`, item `def f -> array[int, 2]`
   unfoldable pub optRetType : Acts (Unit {0})
   optRetType = do
     b ← at THIN-ARROW

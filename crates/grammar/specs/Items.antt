@@ -16,6 +16,8 @@ use Rattle.grammar.specs.Params.{paramListGateParams, paramListGateQubit
 use Rattle.grammar.specs.Atom.{blockExpr, tryBlockExpr, hardwareQubit}
 
 -- fn break_, line 221
+-- runs: item `break;`
+-- breaks: item `break`
 unfoldable pub break : ℕ → Acts (Unit {0})
 break m = do
   bump BREAK-KW
@@ -23,6 +25,8 @@ break m = do
   just (complete m BREAK-STMT)
 
 -- fn continue_, line 227
+-- runs: item `continue;`
+-- breaks: item `continue`
 unfoldable pub continue : ℕ → Acts (Unit {0})
 continue m = do
   must CONTINUE-KW
@@ -31,6 +35,8 @@ continue m = do
   just (complete m CONTINUE-STMT)
 
 -- fn end_, line 234
+-- runs: item `end;`
+-- breaks: item `end`
 unfoldable pub end : ℕ → Acts (Unit {0})
 end m = do
   must END-KW
@@ -39,6 +45,8 @@ end m = do
   just (complete m END-STMT)
 
 -- fn filepath_r, line 359
+-- runs: item `include "x"`
+-- breaks: item `include`, item `include;`, item `include 3`
 unfoldable pub filepathR : List ℕ → Acts (Unit {0})
 filepathR recovery = do
   b ← at STRING
@@ -48,6 +56,8 @@ filepathR recovery = do
     just (complete m FILE-PATH)) (errRecover EXPECTED-A-PATH-TO-A-FILE recovery)
 
 -- fn defcalgrammar_, line 370
+-- runs: item `defcalgrammar "x";`
+-- breaks: item `defcalgrammar`, item `defcalgrammar "x"`
 unfoldable pub defcalgrammar : ℕ → Acts (Unit {0})
 defcalgrammar m = do
   bump DEFCALGRAMMAR-KW
@@ -56,6 +66,8 @@ defcalgrammar m = do
   just (complete m DEF-CAL-GRAMMAR)
 
 -- fn include, line 377
+-- runs: item `include "x";`
+-- breaks: item `include`, item `include "x"`
 unfoldable pub include : ℕ → Acts (Unit {0})
 include m = do
   bump INCLUDE-KW
@@ -70,6 +82,8 @@ skipToSemicolon number = cond number (done tt) (do
   when (not b) bumpAny)
 
 -- fn version_, line 398
+-- runs: item `OPENQASM 3.0;`
+-- breaks: item `OPENQASM`, item `OPENQASM 3;`, item `OPENQASM 3.0`
 unfoldable pub version : Acts (Unit {0})
 version = do
   m ← start
@@ -79,6 +93,8 @@ version = do
   just (complete m VERSION)
 
 -- fn version_string, line 392
+-- runs: item `OPENQASM 3.0;`
+-- breaks: item `OPENQASM`, item `OPENQASM 3;`
 unfoldable pub versionString : ℕ → Acts (Unit {0})
 versionString m = do
   bump O-P-E-N-Q-A-S-M-KW
@@ -111,6 +127,8 @@ afterItem = do
 
 module _ (deeper : Counted) where
   -- fn switch_case_stmt, line 109: a round of its loop, and the whole
+  -- runs: item `switch (a) {case 1 {}}`, item `switch (a) {case 1, 2 {} default {}}`
+  -- breaks: item `switch`, item `switch (a) {}`, item `switch (a) {case 1 {}`
   unfoldable pub switchCaseStmtRound : Unit {0} → Acts (Turn (Unit {0}))
   switchCaseStmtRound x = do
     b ← at CASE-KW
@@ -138,6 +156,8 @@ module _ (deeper : Counted) where
     just (complete m SWITCH-CASE-STMT)
 
   -- fn if_stmt, line 133
+  -- runs: item `if (a) {}`, item `if (a) {} else if (b) {} else {}`
+  -- breaks: item `if`, item `if (a {}`, item `if (a) {} else`
   unfoldable pub ifStmt : ℕ → Acts (Unit {0})
   ifStmt m = do
     must IF-KW
@@ -156,6 +176,8 @@ module _ (deeper : Counted) where
     just (complete m IF-STMT)
 
   -- fn while_stmt, line 152
+  -- runs: item `while (a) {}`
+  -- breaks: item `while`, item `while a) {}`, item `while (a)`
   unfoldable pub whileStmt : ℕ → Acts (Unit {0})
   whileStmt m = do
     must WHILE-KW
@@ -175,6 +197,8 @@ module _ (deeper : Counted) where
     just (complete m FOR-STMT)
 
   -- fn for_stmt, line 162
+  -- runs: item `for int i in a;`, item `for int i in {1} {}`
+  -- breaks: item `for`, item `for int i {1};`, item `for {`
   unfoldable pub forStmt : ℕ → Acts (Unit {0})
   forStmt m = do
     must FOR-KW
@@ -190,6 +214,8 @@ module _ (deeper : Counted) where
     forRest m m1
 
   -- fn qubit_declaration_stmt, line 189
+  -- runs: item `qubit q;`, item `qubit $0;`
+  -- breaks: item `qubit`, item `qubit q`
   unfoldable pub qubitDeclarationStmt : ℕ → Acts (Unit {0})
   qubitDeclarationStmt m = do
     must QUBIT-KW
@@ -197,6 +223,8 @@ module _ (deeper : Counted) where
     qubitEnd m
 
   -- fn reset_stmt, line 203
+  -- runs: item `reset q;`
+  -- breaks: item `reset`, item `reset q`
   unfoldable pub resetStmt : ℕ → Acts (Unit {0})
   resetStmt m = do
     bump RESET-KW
@@ -210,6 +238,8 @@ module _ (deeper : Counted) where
         abandon m)
 
   -- fn gate_definition, line 241
+  -- runs: item `gate g {}`, item `gate g(a) q {}`
+  -- breaks: item `gate`, item `gate g q`
   unfoldable pub gateDefinition : ℕ → Acts (Unit {0})
   gateDefinition m = do
     bump GATE-KW
@@ -228,6 +258,8 @@ module _ (deeper : Counted) where
     just (complete m node)
 
   -- fn defcal_, line 260
+  -- runs: item `defcal f {}`, item `defcal f(int a) q -> bit {}`
+  -- breaks: item `defcal`, item `defcal f q`
   unfoldable pub defcal : ℕ → Acts (Unit {0})
   defcal m = do
     bump DEFCAL-KW
@@ -238,6 +270,8 @@ module _ (deeper : Counted) where
     signature m DEF-CAL
 
   -- fn _returns_bool_classical_declaration_stmt, line 282, and classical_declaration_stmt, line 323, which does not read its answer
+  -- runs: item `int a;`, item `const int a = b;`, item `int[1](a);`
+  -- breaks: item `int a`, item `int a = b`, item `int[1](a;`
   unfoldable pub classicalDeclarationStmt : ℕ → Acts (Unit {0})
   classicalDeclarationStmt m = do
     eat CONST-KW
@@ -264,6 +298,8 @@ module _ (deeper : Counted) where
               just (complete m CLASSICAL-DECLARATION-STATEMENT)) (abandon m)))
 
   -- fn io_declaration_stmt, line 327
+  -- runs: item `input int a;`
+  -- breaks: item `input`, item `input qubit q;`, item `output int a`
   unfoldable pub ioDeclarationStmt : ℕ → Acts (Unit {0})
   ioDeclarationStmt m = do
     bumpAny
@@ -274,6 +310,8 @@ module _ (deeper : Counted) where
     just (complete m I-O-DECLARATION-STATEMENT)
 
   -- fn def_stmt, line 339
+  -- runs: item `def f() {}`, item `def f(int a) -> bit {}`
+  -- breaks: item `def`, item `def f {}`, item `def f()`
   unfoldable pub defStmt : ℕ → Acts (Unit {0})
   defStmt m = do
     must DEF-KW
@@ -284,6 +322,8 @@ module _ (deeper : Counted) where
     signature m DEF
 
   -- fn cal_, line 386
+  -- runs: item `cal {}`
+  -- breaks: item `cal`
   unfoldable pub cal : ℕ → Acts (Unit {0})
   cal m = do
     bump CAL-KW
@@ -291,6 +331,8 @@ module _ (deeper : Counted) where
     just (complete m CAL)
 
   -- fn barrier_, line 408
+  -- runs: item `barrier;`, item `barrier q;`
+  -- breaks: item `barrier`, item `barrier 3;`
   unfoldable pub barrier : ℕ → Acts (Unit {0})
   barrier m = do
     bump BARRIER-KW
@@ -300,6 +342,8 @@ module _ (deeper : Counted) where
     just (complete m BARRIER)
 
   -- fn delay_stmt, line 417
+  -- runs: item `delay[1];`, item `delay[1] q;`
+  -- breaks: item `delay`, item `delay[1]`
   unfoldable pub delayStmt : ℕ → Acts (Unit {0})
   delayStmt m = do
     bump DELAY-KW
@@ -309,6 +353,8 @@ module _ (deeper : Counted) where
     just (complete m DELAY-STMT)
 
   -- fn alias_stmt, line 426
+  -- runs: item `let a = b;`
+  -- breaks: item `let`, item `let a b;`, item `let a = b`
   unfoldable pub aliasStmt : ℕ → Acts (Unit {0})
   aliasStmt m = do
     must LET-KW
@@ -320,6 +366,8 @@ module _ (deeper : Counted) where
     just (complete m ALIAS-DECLARATION-STATEMENT)
 
   -- fn opt_item, line 68: the statements that begin with a kind, in the order of its match; first those from line 96 on
+  -- runs: item ``, item `break;`
+  -- breaks: item `break`
   abbrev pub statementsMore : ℕ → List (ℕ × Acts (Unit {0}))
   statementsMore m =
       (RESET-KW, resetStmt m)
@@ -382,6 +430,8 @@ module _ (deeper : Counted) where
         exprBlockContents deeper))
 
   -- fn item, line 32
+  -- runs: item ``, item `;`
+  -- breaks: item `}`, item `break;;`
   unfoldable pub item : Bool → Acts (Unit {0})
   item stopOnRCurly = do
     m ← start
@@ -389,6 +439,8 @@ module _ (deeper : Counted) where
     elim offer [ Taken ↦ afterItem | Back m ↦ unmatched stopOnRCurly m ]
 
   -- fn source_file_contents, line 10: a round of its loop, and the whole
+  -- runs: source ``, source `break; end;`
+  -- breaks: source `}`, source `break`
   unfoldable pub sourceFileContentsRound : Bool → Unit {0} → Acts (Turn (Unit {0}))
   sourceFileContentsRound stopOnRCurly x = do
     end ← at EOF

@@ -18,6 +18,8 @@ use Rattle.grammar.specs.Grammar.{Counted, when, just, fail}
 use Rattle.grammar.specs.Expressions.{exprOrRangeExpr, varName, indexedIdentifier}
 
 -- fn param_untyped, line 172
+-- runs: item `gate g q`
+-- breaks: item `gate g 3`
 unfoldable pub paramUntyped : ℕ → Acts Bool
 paramUntyped m = do
   b ← at IDENT
@@ -103,6 +105,8 @@ listEnd list sh n = do
 
 module _ (deeper : Counted) where
   -- fn param_typed, line 183
+  -- runs: item `def f(int a`
+  -- breaks: item `def f(a`, item `def f(int`, item `def f(3`
   unfoldable pub paramTyped : ℕ → Acts Bool
   paramTyped m = do
     deeper .typeSpec
@@ -111,6 +115,8 @@ module _ (deeper : Counted) where
     done true
 
   -- fn arg_gate_call_qubit, line 191
+  -- runs: item `reset q`, item `reset $0`, item `reset q[1]`
+  -- breaks: item `barrier 3`, item `reset q[`
   unfoldable pub argGateCallQubit : ℕ → Acts Bool
   argGateCallQubit m = do
     b ← at HARDWAREIDENT
@@ -140,6 +146,8 @@ module _ (deeper : Counted) where
   foundParam Untyped m = paramUntyped m
 
   -- fn _param_list_openqasm, line 49: a round of its loop, which carries num_params, and the whole. Its marker m is always None.
+  -- runs: item `gate`, item `gate g(a, b) q, r {}`
+  -- breaks: item `gate g;`, item `gate g q r`, item `gate g(`
   unfoldable pub paramListOpenqasmRound : Shape → ℕ → Acts (Turn ℕ)
   paramListOpenqasmRound sh n = do
     go ← listGoes sh
@@ -161,24 +169,44 @@ module _ (deeper : Counted) where
     n ← repeats (paramListOpenqasmRound (shapeOf flavor)) 0
     listEnd list (shapeOf flavor) n
 
-  -- fn param_list_gate_params, line 6, and the others that name a flavor
+  -- fn param_list_gate_params, line 6
+  -- runs: item `gate g(a)`
+  -- breaks: item `gate g()`, item `gate g(a`, item `gate g(3)`
   unfoldable pub paramListGateParams : Acts (Unit {0})
   paramListGateParams = paramListOpenqasm GateParams
 
+  -- fn param_list_gate_qubits, line 9
+  -- runs: item `gate`, item `gate g q, r {`
+  -- breaks: item `gate g;`, item `gate g q r`
   unfoldable pub paramListGateQubits : Acts (Unit {0})
   paramListGateQubits = paramListOpenqasm GateQubits
 
+  -- fn arg_list_gate_call_qubits, line 13
+  -- runs: item `barrier`, item `barrier q, $1;`
+  -- breaks: item `barrier )`, item `barrier q r`, item `barrier 3`
   unfoldable pub argListGateCallQubits : Acts (Unit {0})
   argListGateCallQubits = paramListOpenqasm GateCallQubits
 
+  -- fn param_list_def_params, line 17
+  -- runs: item `def f()`, item `def f(int a, bit b)`
+  -- breaks: item `def f(`, item `def f(int a b)`, item `def f(3`
   unfoldable pub paramListDefParams : Acts (Unit {0})
   paramListDefParams = paramListOpenqasm DefParams
 
+  -- fn param_list_defcal_params, line 20
+  -- runs: item `defcal f()`, item `defcal f(int a)`
+  -- breaks: item `defcal f(`, item `defcal f(})`, item `defcal f($0`
   unfoldable pub paramListDefcalParams : Acts (Unit {0})
   paramListDefcalParams = paramListOpenqasm DefCalParams
 
+  -- fn param_list_defcal_qubits, line 23
+  -- runs: item `defcal`, item `defcal f q, r -> bit {`
+  -- breaks: item `defcal f;`, item `defcal f q r`, item `defcal f $0`
   unfoldable pub paramListDefcalQubits : Acts (Unit {0})
   paramListDefcalQubits = paramListOpenqasm DefCalQubits
 
+  -- fn expression_list, line 27
+  -- runs: expr `a[1`, expr `a[1, b:c]`
+  -- breaks: expr `a[`, expr `a[1 2`, expr `a[;`
   unfoldable pub expressionList : Acts (Unit {0})
   expressionList = paramListOpenqasm ExpressionList

@@ -108,6 +108,8 @@ abbrev pub packed : Power → ℕ
 packed q = 2 * q .power + (q .power + 1 - q .next)
 
 -- fn current_op, line 167: one lookup, and what stands there under a table
+-- runs: expr `a`, expr `a||b&&c==d!=e<f>g<=h>=i|j^k&l<<m>>n+o-p*q/r%s`, expr `a|=b>>=c<<=d+=e^=f%=g&=h/=i*=j-=k=l`, expr `a++b..c..=d`, expr `a=>b`
+-- breaks: never
 unfoldable pub currentOp : Table → Acts Op
 currentOp ops = do
   k ← current
