@@ -237,7 +237,8 @@ module _ (deeper : Counted) where
     x ← repeats tupleExprRound (false, comma)
     tupleEnd m (x .0) (x .1)
 
-  -- fn array_expr, line 294: a round of its loop, which carries whether n_exprs is still 0 and has_semi, and the whole
+  -- fn array_expr, line 294: a round of its loop, which carries whether n_exprs is still 0 and has_semi, and the whole. The crate counts
+  -- n_exprs and asks once whether it is 1: whether this is the first element, so a flag tells the same.
   -- runs: expr `[]`, expr `[a; b]`, expr `[a, b]`
   -- breaks: expr `[`, expr `[1 2]`, expr `[;]`
   unfoldable pub arrayExprRound : Bool × Bool → Acts (Turn (Bool × Bool))

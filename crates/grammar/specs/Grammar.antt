@@ -88,7 +88,8 @@ abbrev pub name : Acts (Unit {0})
 name = nameR EMPTY
 
 -- fn delimited, line 156: after an element, whether another one is to follow; a round of its loop; and the whole. The loop's two
--- tests change nothing, so their order is not told.
+-- tests, `!p.at(ket)` before `!p.at(EOF)`, change nothing and cost no lookup, so the run is the same in either order: here it is that of every other
+-- loop, `goesOn`.
 -- runs: expr `a(`, expr `a(b, 1)`
 -- breaks: expr `a(1 2)`, expr `a(;`
 unfoldable pub separator : ℕ → List ℕ → Acts Bool

@@ -32,7 +32,8 @@ paramUntyped m = do
       done false)
 
 -- What fn _param_list_openqasm, line 49, reads off its flavor: whether the list stands in parentheses, the two kinds that end it,
--- whether it must not be empty, the node that it makes, and how a parameter is parsed.
+-- whether it must not be empty, the node that it makes, and how a parameter is parsed. The crate asks for the flavor at each of these places;
+-- that is no act and costs no lookup, so a table that is read once makes the same run.
 abbrev pub shape : Bool → ℕ → ℕ → Bool → ℕ → How → Shape
 shape parens end end2 one node how = record { parens = parens; end = end; end2 = end2; one = one; node = node; how = how }
 

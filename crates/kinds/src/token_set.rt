@@ -1,5 +1,7 @@
 // Sets of kinds: src/token_set.rs, and the fixed sets that the grammar's files have as constants.
+use crate::syntax_kind_enum as k;
 ghost use mathlib.Core.Path.{_≡_};
+ghost use mathlib.Core.Bool.{true};
 ghost use Prim.Native.Nat.{_/_, _%_, _^_};
 ghost use lib.Dec.{eqb};
 ghost use Rattle.kinds.specs.Membership.{held, either};
@@ -59,4 +61,24 @@ fn has_bit(word: u64, kind: u16) -> bool
     ensures { λ r. ⌜ r ≡ eqb (word / 2 ^ (kind % 64) % 2) 1 ⌝ }
 {
     (word >> (kind % 64)) % 2 == 1
+}
+
+// The crate's own test of its token sets, here proved to say yes: a set of two kinds has both, and not a third.
+fn token_set_works_for_tokens() -> bool
+    ensures { λ r. ⌜ r ≡ true ⌝ }
+{
+    let eof = TokenSet {
+        words: [0x2, 0x0, 0x0, 0x0],
+    };
+    let comment = TokenSet {
+        words: [0x0, 0x40000000000000, 0x0, 0x0],
+    };
+    let ts = eof.union(comment);
+    if !ts.contains(k::EOF) {
+        return false;
+    }
+    if !ts.contains(k::COMMENT) {
+        return false;
+    }
+    !ts.contains(k::PLUS)
 }
