@@ -8,15 +8,13 @@ use Prim.Native.Nat.{ℕ, _-_, _*_, _≤_, _<_}
 use native.Mathlib.Omega.{arith}
 use lib.Dec.{eqb}
 use lib.ListN.{length, replicate}
-use Rattle.laws.proofs.Tests.{by-test}
 use Rattle.event.specs.declared.Event.{Event}
-use Rattle.event.specs.Event.{eventWords, eventsOf, wordsOf}
+use Rattle.event.specs.Event.{eventWords, wordsOf}
 use Rattle.event.proofs.Rooms.{length-events}
 use Rattle.input.specs.Input.{env}
 use Rattle.runtime.specs.declared.parser.Parser.{Parser}
 use Rattle.runtime.specs.State.{St, view, new}
 use Rattle.runtime.specs.Cover.{events}
-use Rattle.runtime.specs.Acts.{run}
 use Rattle.runs.proofs.Alike.{Alike, alike-run}
 use Rattle.runs.proofs.Joints.{Agree, joints-run}
 use Rattle.parse.specs.Parse.{Lent, Outcome, lent, ends, says, refuses, badMode, tooMany, fewJoints, firstFault, notPermitted, actsOf, ran, numberOf, settled, parsed}
@@ -34,6 +32,17 @@ unfolding settled
 settled-same n size s t q e =
     ap₂ (λ (p : Parser) (es : List Event). cond (eqb n 0) (ends (says 0 (p .pos) (p .len) (p .looks)) (wordsOf es ++ replicate (size - p .len * eventWords) 0)) (ends (refuses n (p .pos)) (replicate size 0))) q e
 
+-- the outcome of a run, and what four tests make of it
+abbrev ended : Lent → Outcome
+ended l = settled (numberOf (l .entry) (length (l .kinds)) (ran l .p)) (length (l .room)) (ran l)
+
+abbrev chosen : Bool → Bool → Bool → Bool → Lent → Outcome
+chosen a b c d l = cond a (ends (refuses 1 0) (l .room)) (cond b (ends (refuses 2 0) (l .room)) (cond c (ends (refuses 3 0) (l .room)) (cond d (ends (refuses 4 (firstFault (l .kinds))) (l .room)) (ended l))))
+
+early : {A : Type 0} (n : ℕ) → 1 ≤ n → n ≤ 4 → (n ≡ 0) ⊎ (4 < n) → A
+early n p q (inl z) = absurd (omega arith)
+early n p q (inr z) = absurd (omega arith)
+
 module _ (l : Lent) (room : List ℕ) (size : length room ≡ length (l .room)) where
   run-alike : Alike (ran (inRoom l room)) (ran l)
   run-alike =
@@ -41,34 +50,22 @@ module _ (l : Lent) (room : List ℕ) (size : length room ≡ length (l .room)) 
       (record { same = refl; size = length-events room ∙ omega (arith, size) ∙ sym (length-events (l .room)); so-far = refl })
       .1
 
+  ended-same : ended (inRoom l room) ≡ ended l
+  ended-same =
+      ap₂ (λ (p : Parser) (n : ℕ). settled (numberOf (l .entry) (length (l .kinds)) p) n (ran (inRoom l room))) (run-alike .same) size
+      ∙ settled-same (numberOf (l .entry) (length (l .kinds)) (ran l .p)) (length (l .room)) (ran (inRoom l room)) (ran l) (run-alike .same) (run-alike .so-far)
+
+  chosen-same : (a b c d : Bool) → (chosen a b c d l .answer .code ≡ 0) ⊎ (4 < chosen a b c d l .answer .code) → chosen a b c d (inRoom l room) ≡ chosen a b c d l
+  chosen-same true b c d h = early 1 (omega arith) (omega arith) h
+  chosen-same false true c d h = early 2 (omega arith) (omega arith) h
+  chosen-same false false true d h = early 3 (omega arith) (omega arith) h
+  chosen-same false false false true h = early 4 (omega arith) (omega arith) h
+  chosen-same false false false false h = ended-same
+
   -- What a parse says and leaves that is done, or refused with 5 to 8, does not depend on what the room held, but for its length.
   pub room-forgotten : (parsed l .answer .code ≡ 0) ⊎ (4 < parsed l .answer .code) → parsed (inRoom l room) ≡ parsed l
   unfolding parsed
-  room-forgotten = by (badMode l) (tooMany l) (fewJoints l) (notPermitted l)
-    where
-      ended : Lent → Outcome
-      ended x = settled (numberOf (x .entry) (length (x .kinds)) (ran x .p)) (length (x .room)) (ran x)
-
-      chosen : Bool → Bool → Bool → Bool → Lent → Outcome
-      chosen a b c d x = cond a (ends (refuses 1 0) (x .room)) (cond b (ends (refuses 2 0) (x .room)) (cond c (ends (refuses 3 0) (x .room)) (cond d (ends (refuses 4 (firstFault (x .kinds))) (x .room)) (ended x))))
-
-      whole : ended (inRoom l room) ≡ ended l
-      unfolding ended
-      whole =
-          ap₂ (λ (p : Parser) (n : ℕ). settled (numberOf (l .entry) (length (l .kinds)) p) n (ran (inRoom l room))) (run-alike .same) size
-          ∙ settled-same (numberOf (l .entry) (length (l .kinds)) (ran l .p)) (length (l .room)) (ran (inRoom l room)) (ran l) (run-alike .same) (run-alike .so-far)
-
-      early : {A : Type 0} (n : ℕ) → 1 ≤ n → n ≤ 4 → (n ≡ 0) ⊎ (4 < n) → A
-      early n p q (inl z) = absurd (omega arith)
-      early n p q (inr z) = absurd (omega arith)
-
-      by : (a b c d : Bool) → (chosen a b c d l .answer .code ≡ 0) ⊎ (4 < chosen a b c d l .answer .code) → chosen a b c d (inRoom l room) ≡ chosen a b c d l
-      unfolding chosen ended
-      by true b c d h = early 1 (omega arith) (omega arith) h
-      by false true c d h = early 2 (omega arith) (omega arith) h
-      by false false true d h = early 3 (omega arith) (omega arith) h
-      by false false false true h = early 4 (omega arith) (omega arith) h
-      by false false false false h = whole
+  room-forgotten = chosen-same (badMode l) (tooMany l) (fewJoints l) (notPermitted l)
 
 -- Further joint words and bits are ignored: where two lists of joint words are both long enough, or both too short, and agree on each token
 -- that another follows, a parse says and leaves the same.
