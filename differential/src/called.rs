@@ -6,7 +6,7 @@ use differential::case::{hexes, numbers, Case};
 use differential::replay::{self, LARGEST};
 use differential::{generate, text};
 use std::cell::OnceCell;
-use std::collections::BTreeMap;
+use std::collections::{BTreeMap, BTreeSet};
 use std::io::BufRead;
 
 /// A loop that spins is found sooner than the port finds it: no short list looks so often otherwise.
@@ -25,12 +25,17 @@ fn agrees(case: &Case) -> bool {
     crates == oq3_called::entries::parse(case.entry, &case.kinds, &case.joints, BOUNDS)
 }
 
-/// What short lists are known to do, by function: the first, and so a shortest, that runs it, and one that breaks it.
+/// What short lists are known to do, by function: the first, and so a shortest, that runs it, one that breaks it, and all messages that it
+/// reports itself.
 #[derive(Default)]
 struct Short {
     runs: BTreeMap<&'static str, Case>,
     breaks: BTreeMap<&'static str, Case>,
+    own: Messages,
 }
+
+/// Messages, by the function that reports them.
+type Messages = BTreeMap<String, BTreeSet<String>>;
 
 impl Short {
     fn look(&mut self, alphabet: &[u16], length: usize) {
@@ -40,6 +45,9 @@ impl Short {
                 for (place, noted) in noted(&case) {
                     let map = if noted.clean() { &mut self.runs } else { &mut self.breaks };
                     map.entry(place).or_insert_with(|| case.clone());
+                    if !noted.own.is_empty() {
+                        self.own.entry(place.to_string()).or_default().extend(noted.own);
+                    }
                 }
             }
         });
@@ -86,13 +94,18 @@ fn lines(case: &Case) -> Result<Vec<String>, String> {
     Ok(lines)
 }
 
-/// A row: `PLACE never`; `PLACE WHAT ENTRY TEXT` with `least`, `runs` or `breaks`; or `- calls ENTRY TEXT`. Where it holds, its lines with
-/// their answers; for the last, the places of the functions that are called.
-fn row(row: &str, short: &OnceCell<Short>) -> Result<Vec<String>, String> {
+/// A row: `PLACE never` or `PLACE all`; `PLACE WHAT ENTRY TEXT` with `least`, `runs` or `breaks`; or `- calls ENTRY TEXT`. Where it holds, its
+/// lines with their answers; for the last, the places of the functions that are called. The messages that have been reported are kept.
+fn row(row: &str, short: &OnceCell<Short>, reported: &mut Messages) -> Result<Vec<String>, String> {
     let parts: Vec<&str> = row.splitn(4, ' ').collect();
     let short = || short.get_or_init(Short::all);
     let (place, what, entry, said) = match parts[..] {
         [place, "never"] => return short().breaks.get(place).map_or(Ok(vec![]), |case| Err(format!("it is broken by {}", shown(case)))),
+        [place, "all"] => {
+            let known = short().own.get(place).cloned().unwrap_or_default();
+            let missed: Vec<String> = known.difference(reported.entry(place.to_string()).or_default()).cloned().collect();
+            return if missed.is_empty() { Ok(vec![]) } else { Err(format!("no list that breaks it has it report {missed:?}")) };
+        }
         [place, what, entry, said] => (place, what, entry, said),
         _ => return Err("no row".to_string()),
     };
@@ -111,6 +124,9 @@ fn row(row: &str, short: &OnceCell<Short>) -> Result<Vec<String>, String> {
         ("breaks", true) => return Err("it is finished without a message".to_string()),
         _ => (),
     }
+    if what == "breaks" {
+        reported.entry(place.to_string()).or_default().extend(noted.own.iter().cloned());
+    }
     if what == "least" {
         let known = short().runs.get(place).filter(|known| known.kinds.len() < case.kinds.len()).cloned();
         if let Some(less) = known.or_else(|| within(place, &case)) {
@@ -125,9 +141,9 @@ fn main() {
     let words: Vec<String> = std::env::args().skip(1).collect();
     with_stack(|| match words[..] {
         [] => {
-            let short = OnceCell::new();
+            let (short, mut reported) = (OnceCell::new(), Messages::new());
             for line in std::io::stdin().lock().lines() {
-                match row(&line.expect("a line"), &short) {
+                match row(&line.expect("a line"), &short, &mut reported) {
                     Ok(lines) => println!("good\t{}", lines.join("\t")),
                     Err(why) => println!("wrong\t{why}"),
                 }
