@@ -87,9 +87,9 @@ fn lines(case: &Case) -> Result<Vec<String>, String> {
         if mode == 0 && !replay::agrees(case, room) {
             return Err("the crate and what the port must say differ".to_string());
         }
-        let said = format!("{} {mode} {room} {} {}", case.entry.name(), numbers(&case.kinds), hexes(&case.joints));
-        lines.push(format!("parse {said}"));
-        lines.push(replay::answer("parse", &said.split(' ').collect::<Vec<_>>()).expect("a line"));
+        let line = format!("parse {} {mode} {room} {} {}", case.entry.name(), numbers(&case.kinds), hexes(&case.joints));
+        let said = replay::answer(&line).expect("a line");
+        lines.extend([line, said]);
     }
     Ok(lines)
 }

@@ -84,7 +84,7 @@ fn answer_one(line: &str) -> Option<String> {
                 _ => answer_line(&run),
             })
         }
-        _ => replay::answer(word, &parts),
+        _ => replay::answer(line),
     }
 }
 

@@ -45,13 +45,13 @@ pub const NAMED: [(&str, &str); 34] = [
     ("source", "PRAGMA ANNOTATION const int a = 3; input angle b; a += 1; while (a < 3) { a = a + 1; continue; } end;"),
 ];
 
-/// The lines of `parse.in`: no case twice, and none of more tokens than keep the files small.
-fn cases() -> Vec<String> {
-    let mut lines = Vec::new();
+/// The cases of `parse.in`: none twice, and none of more tokens than keep the files small.
+pub fn cases() -> Vec<Case> {
+    let mut list = Vec::new();
     let mut seen = HashSet::new();
     let mut add = |case: Case| {
         if case.kinds.len() <= 200 && seen.insert(case.clone()) {
-            lines.push(case.line());
+            list.push(case);
             return true;
         }
         false
@@ -82,7 +82,7 @@ fn cases() -> Vec<String> {
             left -= 1;
         }
     }
-    lines
+    list
 }
 
 /// The lines of `process.in`.
@@ -133,7 +133,8 @@ fn digest(answer: &impl Fn(&str) -> String) -> String {
 /// Writes the files into a folder.
 pub fn run(folder: &Path, answer: impl Fn(&str) -> String) -> bool {
     let mut files = vec![("digest.txt".to_string(), vec![digest(&answer)])];
-    for (name, lines) in [("parse", cases()), ("process", event_lists())] {
+    let parses = cases().iter().map(Case::line).collect();
+    for (name, lines) in [("parse", parses), ("process", event_lists())] {
         println!("differential: {} recorded answers in {name}.out", lines.len());
         files.push((format!("{name}.out"), lines.iter().map(|line| answer(line)).collect()));
         files.push((format!("{name}.in"), lines));

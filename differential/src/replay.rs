@@ -101,9 +101,14 @@ pub fn full() -> [Case; 2] {
     cases
 }
 
-/// The answer to a line of `replay`, or none where it is none.
-pub fn answer(word: &str, parts: &[&str]) -> Option<String> {
-    match (word, parts) {
+/// The answer to a line of `replay`, or none where it is none. A line that begins with `#` is copied.
+pub fn answer(line: &str) -> Option<String> {
+    if line.starts_with('#') {
+        return Some(line.to_string());
+    }
+    let (word, rest) = line.split_once(' ').unwrap_or((line, ""));
+    let parts: Vec<&str> = rest.split(' ').collect();
+    match (word, &parts[..]) {
         ("parse", [entry, mode, room, kinds, joints]) => {
             let case = Case::read(entry, kinds, joints)?;
             let said = parse(&case, mode.parse().ok()?, room.parse().ok()?);

@@ -1,6 +1,6 @@
 //! The recorded cases of the port's program `replay`: its lines, and what it must print for each. The same on every machine.
 
-use crate::record::{write, NAMED};
+use crate::record::{cases, write, NAMED};
 use answer::{kinds, permitted, Entry, Ev, ENTRIES};
 use differential::case::{hexes, numbers, Case};
 use differential::replay::{self, LARGEST};
@@ -31,16 +31,15 @@ pub fn run(folder: &Path) -> bool {
 
 /// What the program must print for a line.
 fn answer(line: &str) -> String {
-    let (word, rest) = line.split_once(' ').unwrap_or((line, ""));
-    let parts: Vec<&str> = rest.split(' ').collect();
-    replay::answer(word, &parts).unwrap_or_else(|| "bad line".to_string())
+    replay::answer(line).unwrap_or_else(|| "bad line".to_string())
 }
 
-/// Lines, none twice.
+/// Lines, none twice, and the cases that are parsed in mode 0 in a room that suffices.
 #[derive(Default)]
 struct Lines {
     list: Vec<String>,
     seen: HashSet<String>,
+    whole: HashSet<Case>,
 }
 
 impl Lines {
@@ -53,6 +52,9 @@ impl Lines {
     /// A parse. In mode 0 its answer is held to the crate that is not watched.
     fn parse(&mut self, case: &Case, mode: u32, room: usize) {
         assert!(mode != 0 || replay::agrees(case, room), "the crate and what the port must say differ: {}", case.line());
+        if mode == 0 && replay::parse(case, 0, room).code != 5 {
+            self.whole.insert(case.clone());
+        }
         self.add(format!("parse {} {mode} {room} {} {}", case.entry.name(), numbers(&case.kinds), hexes(&case.joints)));
     }
 
@@ -82,12 +84,21 @@ fn many(entry: Entry, text: &str, size: usize) -> Case {
 fn lines() -> Vec<String> {
     let mut lines = Lines::default();
     let mut rng = Rng::new(5);
+    lines.add("# small runs, and every kind alone".to_string());
     small(&mut lines);
+    lines.add("# refused before the run".to_string());
     refused_before(&mut lines);
+    lines.add("# limits".to_string());
     limits(&mut lines);
+    lines.add("# nests".to_string());
     nests(&mut lines);
+    lines.add("# random cases".to_string());
     random(&mut lines, &mut rng);
+    lines.add("# what else the oracle's answers are recorded of, in mode 0".to_string());
+    recorded(&mut lines);
+    lines.add("# lists of events".to_string());
     event_lists(&mut lines, &mut rng);
+    lines.add("# lines that are none".to_string());
     bad(&mut lines);
     lines.list
 }
@@ -227,6 +238,15 @@ fn random(lines: &mut Lines, rng: &mut Rng) {
     }
 }
 
+/// The cases of `recorded/parse.in` that no line has, in a room of the peak: each runs to its own end.
+fn recorded(lines: &mut Lines) {
+    for case in cases() {
+        if !lines.whole.contains(&case) {
+            lines.parse(&case, 0, Ev::WORDS * peak(&case, 0));
+        }
+    }
+}
+
 /// Lists of events for the check and for resolution.
 fn event_lists(lines: &mut Lines, rng: &mut Rng) {
     let resolve = |lines: &mut Lines, words: &[u32], rng: &mut Rng| {
@@ -277,8 +297,11 @@ fn event_lists(lines: &mut Lines, rng: &mut Rng) {
     lines.add(format!("check {}", numbers(&vec![0; 131_074])));
 }
 
-/// Lines that are none.
+/// Lines that are none, and lines that are copied.
 fn bad(lines: &mut Lines) {
+    for line in ["#", "#parse item 0 8 3 0", "# two  spaces, and one at the end "] {
+        lines.add(line.to_string());
+    }
     for line in [
         "",
         "parse",
@@ -321,6 +344,7 @@ fn bad(lines: &mut Lines) {
         "tree item break",
         "checks -",
         "0 8 3 0",
+        " # a line that begins with a space",
     ] {
         lines.add(line.to_string());
     }

@@ -1,91 +1,207 @@
-// Replays cases from standard input, one to a line, and writes a line for each; what is no case is a `bad line`.
-//
-//   parse ENTRY MODE ROOM KINDS JOINTS   CODE PLACE EVENTS LOOKUPS STATE WORDS
-//   check WORDS                          CODE PLACE
-//   resolve ROOM WORDS                   CODE PLACE BYTES LEFT
-//
-// ENTRY is `source`, `item` or `expr`. Numbers are decimal, JOINTS and BYTES hexadecimal; lists have commas, `-` is none. Fields are
-// parted by one space. A parse is lent ROOM words of 3735928559, resolution ROOM bytes of 165. STATE is `list` (done: WORDS are the
-// events, and zeros follow), `zero`, `same` or `other`; LEFT is `bare` (done: bare tombstones, and no byte past the file is changed),
-// `same` or `other`.
-//
-// It holds 8,256 kinds, 256 joint words, rooms and lists of 131,080 words, and a step room of 524,296 bytes: the longest file of
-// 65,536 events has 8 bytes for each. A line of 1,572,863 bytes fits, and 131,080 words of ten digits are fewer.
-mod cases;
-mod read;
-mod show;
-
-use cases::answer;
-use lines::out::flush;
-use lines::read::line_end;
+// Replays cases from standard input, a line each, and writes a line for each (docs/RULES.md, section 11).
+use cases::BYTES;
+use cases::WORDS;
+use cases::What;
+use cases::head_of;
+use cases::left::BYTE;
+use cases::left::WORD;
+use cases::left::put_parsed;
+use cases::left::put_resolved;
+use cases::numbers::words_at;
+use cases::read_parse;
+use cases::read_resolve;
+use event::EVENT_WORDS;
+use parse::Entry;
+use text::line_end;
+use text::put_field;
+use text::stream::keep;
+use text::stream::read_behind;
+ghost use mathlib.Core.Path.{_≡_};
 ghost use Prim.Native.Nat.{_≤_, _<_};
 ghost use lib.ListN.{length};
 
+// Rooms by calls, so that their lengths are counted once.
+fn words_room(w: u32) -> [u32; WORDS]
+    ensures { λ r. ⌜ 131080 ≡ length r ⌝ }
+{
+    [w; WORDS]
+}
+
+fn step_room() -> [u8; BYTES]
+    ensures { λ r. ⌜ 524296 ≡ length r ⌝ }
+{
+    [BYTE; BYTES]
+}
+
+fn kinds_room() -> [u16; 8256]
+    ensures { λ r. ⌜ 8256 ≡ length r ⌝ }
+{
+    [0; 8256]
+}
+
+fn joints_room() -> [u64; 256]
+    ensures { λ r. ⌜ 256 ≡ length r ⌝ }
+{
+    [0; 256]
+}
+
+fn put_bad() {
+    io::write_all(1, b"bad line");
+}
+
+// A code and a place.
+fn put_place(code: u32, place: u64) {
+    io::print_decimal(1, code as u64);
+    put_field(place);
+}
+
+// The words of the events that an answer has.
+fn event_words(a: parse::Answer) -> usize {
+    if a.code == 0 {
+        return EVENT_WORDS * a.events as usize;
+    }
+    0
+}
+
+fn put_parse(a: parse::Answer, room: &[u32]) {
+    put_place(a.code, a.place as u64);
+    put_field(a.events as u64);
+    put_field(a.lookups as u64);
+    put_parsed(a.code, event_words(a), room);
+}
+
+// Parses, and writes the answer.
+fn parse_in(entry: Entry, mode: u32, kinds: &[u16], joints: &[u64], room: &mut [u32]) {
+    let a = parse::parse(entry, mode, kinds, joints, room);
+    put_parse(a, room);
+}
+
+fn run_parse(entry: Entry, mode: u32, kinds: &[u16], joints: &[u64], size: usize)
+    requires { ⌜ size ≤ 131080 ⌝ }
+{
+    let mut room = words_room(WORD);
+    parse_in(entry, mode, kinds, joints, &mut room[0..size]);
+}
+
+fn parse_case(line: &[u8], from: usize, entry: Entry)
+    requires { ⌜ from ≤ length (now line) ⌝ }
+{
+    let mut kinds = kinds_room();
+    let mut joints = joints_room();
+    let c = read_parse(line, from, &mut kinds, &mut joints);
+    let n = c.kinds;
+    let m = c.joints;
+    if c.ok {
+        run_parse(entry, c.mode, &kinds[0..n], &joints[0..m], c.room);
+    } else {
+        put_bad();
+    }
+}
+
+fn put_check(words: &[u32]) {
+    let a = events::check(words);
+    put_place(a.code(), a.place() as u64);
+}
+
+fn check_case(line: &[u8], from: usize)
+    requires { ⌜ from ≤ length (now line) ⌝ }
+{
+    let mut words = words_room(0);
+    let l = words_at(line, from, &mut words);
+    let n = l.count;
+    if l.ends(line) {
+        put_check(&words[0..n]);
+    } else {
+        put_bad();
+    }
+}
+
+// The bytes of the file that an answer has.
+fn file_bytes(a: events::Answer) -> usize {
+    if a.code() == 0 {
+        return a.place();
+    }
+    0
+}
+
+// Resolves a list, which was `kept`, and writes the answer.
+fn resolve_in(words: &mut [u32], kept: &[u32], room: &mut [u8]) {
+    let a = events::resolve(words, room);
+    put_place(a.code(), a.place() as u64);
+    put_resolved(a.code(), file_bytes(a), room, words, kept);
+}
+
+// Resolves a list in a room of so many bytes. What the list was is read off the line again.
+fn run_resolve(line: &[u8], list: usize, words: &mut [u32], size: usize)
+    requires { ⌜ list ≤ length (now line) ⌝ }
+    requires { ⌜ size ≤ 524296 ⌝ }
+{
+    let mut kept = words_room(0);
+    let k = words_at(line, list, &mut kept);
+    let n = k.count;
+    let mut room = step_room();
+    resolve_in(words, &kept[0..n], &mut room[0..size]);
+}
+
+fn resolve_case(line: &[u8], from: usize)
+    requires { ⌜ from ≤ length (now line) ⌝ }
+{
+    let mut words = words_room(0);
+    let c = read_resolve(line, from, &mut words);
+    let n = c.words;
+    if c.ok {
+        run_resolve(line, c.list, &mut words[0..n], c.room);
+    } else {
+        put_bad();
+    }
+}
+
+// Answers a line, without its line feed.
+fn answer_case(line: &[u8]) {
+    let h = head_of(line);
+    let what = h.what;
+    match what {
+        What::Source => parse_case(line, h.from, Entry::SourceFile),
+        What::Item => parse_case(line, h.from, Entry::Item),
+        What::Expr => parse_case(line, h.from, Entry::Expression),
+        What::Check => check_case(line, h.from),
+        What::Resolve => resolve_case(line, h.from),
+        What::Copy => {
+            io::write_all(1, line);
+        }
+        What::Nothing => put_bad(),
+    }
+}
+
+fn answer(line: &[u8]) {
+    answer_case(line);
+    io::write_all(1, b"\n");
+}
+
 // Answers the lines of a text that have ended, and tells the place past them.
-fn answer_lines(text: &[u8], out: &mut [u8]) -> usize
+fn answer_lines(text: &[u8]) -> usize
     ensures { λ r. ⌜ r ≤ length (now (text .entry)) ⌝ }
 {
     let mut at = 0;
-    let mut put = 0;
     loop {
         let end = line_end(text, at);
         if end >= text.len() {
-            flush(out, put);
             return at;
         }
-        put = answer(&text[at..end], out, put);
+        answer(&text[at..end]);
         at = end + 1;
     }
 }
 
-// Moves the bytes of a range to the front.
-fn move_front(text: &mut [u8], from: usize, to: usize)
-    requires { ⌜ from ≤ to ⌝ }
-    requires { ⌜ to ≤ length (now text) ⌝ }
-{
-    let mut i = from;
-    while i < to {
-        text[i - from] = text[i];
-        i += 1;
-    }
-}
-
-// Keeps the bytes of a range, the line that has not ended, and answers how many they are. One that fills the text is too long:
-// it goes on as a line that begins with `?`, which is no case.
-fn keep(text: &mut [u8], from: usize, to: usize) -> usize
-    requires { ⌜ from ≤ to ⌝ }
-    requires { ⌜ to ≤ length (now text) ⌝ }
-    requires { ⌜ 1 < length (now text) ⌝ }
-    ensures { λ r. ⌜ r < length (now (text .entry)) ⌝ }
-{
-    move_front(text, from, to);
-    if to - from < text.len() {
-        return to - from;
-    }
-    text[0] = b'?';
-    1
-}
-
-// Reads behind the first bytes, and answers how many there are then.
-fn read_behind(text: &mut [u8], held: usize) -> usize
-    requires { ⌜ held ≤ length (now text) ⌝ }
-    ensures { λ r. ⌜ held ≤ r ⌝ }
-    ensures { λ r. ⌜ r ≤ length (now (text .entry)) ⌝ }
-{
-    let got = libc::read(0, &mut text[held..]);
-    held + io::count(got, &text[held..])
-}
-
 // Answers the last line, where no line feed ends it.
-fn answer_last(line: &[u8], out: &mut [u8]) {
+fn answer_last(line: &[u8]) {
     if line.len() > 0 {
-        let put = answer(line, out, 0);
-        flush(out, put);
+        answer(line);
     }
 }
 
 // Answers the lines of standard input as they come. No input outlasts the turns.
-fn answer_input(text: &mut [u8], out: &mut [u8])
+fn answer_input(text: &mut [u8])
     requires { ⌜ 1 < length (now text) ⌝ }
 {
     let mut held = 0;
@@ -93,10 +209,10 @@ fn answer_input(text: &mut [u8], out: &mut [u8])
     while turns > 0 {
         let to = read_behind(text, held);
         if to == held {
-            answer_last(&text[0..held], out);
+            answer_last(&text[0..held]);
             return;
         }
-        let from = answer_lines(&text[0..to], out);
+        let from = answer_lines(&text[0..to]);
         held = keep(text, from, to);
         turns -= 1;
     }
@@ -104,8 +220,7 @@ fn answer_input(text: &mut [u8], out: &mut [u8])
 
 // The room goes in as an array: its length is then known by its type, and not counted.
 fn answer_in(text: &mut [u8; 1572864]) {
-    let mut out = io::large_buffer();
-    answer_input(text, &mut out);
+    answer_input(text);
 }
 
 fn main() {

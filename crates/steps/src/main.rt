@@ -1,32 +1,9 @@
-// Parses tokens that stand as text on standard input, and writes the tree (docs/RULES.md).
-//
-// The text has words parted by white space. A word is a kind by its name or its number (docs/KINDS.md), with `~` right behind it where
-// the token is joint to the next, as in `EQ~ EQ`. `#` begins a comment, up to the line's end. Before the first token the words `!source`,
-// `!item` and `!expr` choose the entry, and `!mode0` and `!mode1` the operators; a source file in mode 0 is parsed where there are none.
-//
-// A line of the tree is a node's kind, `KIND at PLACE` or `KIND (2 tokens) at PLACE` for a token, PLACE the number of its first raw token
-// from 0, or `error CODE at PLACE: TEXT, found KIND`, PLACE the tokens before it and KIND the one that stands there. The last line says
-// how it ended:
-//
-//   done: 9 of 9 tokens, 24 events, 31 lookups, 0 errors    the tree stands before it; how many of the tokens were consumed
-//   refused NUMBER at PLACE: MEANING                        no tree
-//   bad input                                               a line `line N: no kind: WORD` for each bad word stands before it
-//
-// It holds 1,048,575 bytes of text and 8,193 tokens, of which a parse refuses the last.
-mod names;
-mod read;
-mod table;
-mod tree;
-
+// Parses tokens that stand as text on standard input, and writes the tree (docs/RULES.md, section 10).
 use event::EVENT_WORDS;
-use lines::out::flush;
-use lines::out::put;
-use lines::out::put_number;
-use lines::out::put_text;
-use names::NUMBERS;
-use read::Asked;
-use read::read;
-use table::put_entry;
+use parse::Entry;
+use tokens::read::Asked;
+use tokens::read::read;
+use tokens::table::put_number;
 use tree::put_found;
 use tree::put_place;
 use tree::put_tree;
@@ -34,7 +11,20 @@ ghost use mathlib.Core.Path.{_≡_};
 ghost use Prim.Native.Nat.{_≤_};
 ghost use lib.ListN.{length};
 
-// Rooms by calls, so that their lengths are counted once: all the events that a list may have, and the longest file of their steps.
+// Rooms by calls, so that their lengths are counted once: the tokens that a parse takes and one more, their joint words, all the events that
+// a list may have, and the longest file of their steps.
+fn kinds_room() -> [u16; 8193]
+    ensures { λ r. ⌜ 8193 ≡ length r ⌝ }
+{
+    [0; 8193]
+}
+
+fn joints_room() -> [u64; 129]
+    ensures { λ r. ⌜ 129 ≡ length r ⌝ }
+{
+    [0; 129]
+}
+
 fn words_room() -> [u32; 131072]
     ensures { λ r. ⌜ 131072 ≡ length r ⌝ }
 {
@@ -48,97 +38,97 @@ fn steps_room() -> [u8; 524288]
 }
 
 // What stands at the place of a refusal, where that is a token's.
-fn put_here(out: &mut [u8], at: usize, number: u32, place: u64, kinds: &[u16]) -> usize {
+fn put_here(number: u32, place: u64, kinds: &[u16]) {
     if number < 4 {
-        return at;
+        return;
     }
     if number > 8 {
-        return at;
+        return;
     }
-    put_found(out, at, kinds, place)
+    put_found(kinds, place);
 }
 
-fn put_refused(out: &mut [u8], number: u32, place: u64, kinds: &[u16]) -> usize {
-    let n = put_text(out, 0, b"refused ");
-    let n = put_number(out, n, number as u64);
-    let n = put_place(out, n, place);
-    let n = put_text(out, n, b": ");
-    let n = put_entry(out, n, &NUMBERS, number as u64);
-    let n = put_here(out, n, number, place, kinds);
-    put(out, n, b'\n')
+fn put_refused(number: u32, place: u64, kinds: &[u16]) {
+    io::write_all(1, b"refused ");
+    io::print_decimal(1, number as u64);
+    put_place(place);
+    io::write_all(1, b": ");
+    put_number(number as u64);
+    put_here(number, place, kinds);
+    io::write_all(1, b"\n");
 }
 
 // A number and what it counts.
-fn put_count(out: &mut [u8], at: usize, n: u64, what: &[u8]) -> usize {
-    let m = put_number(out, at, n);
-    put_text(out, m, what)
+fn put_count(n: u64, what: &[u8]) {
+    io::print_decimal(1, n);
+    io::write_all(1, what);
 }
 
-fn put_tokens(out: &mut [u8], at: usize, consumed: u32, tokens: usize) -> usize {
-    let n = put_text(out, at, b"done: ");
-    let n = put_count(out, n, consumed as u64, b" of ");
-    put_count(out, n, tokens as u64, b" tokens, ")
+fn put_done(a: parse::Answer, tokens: usize, errors: u64) {
+    io::write_all(1, b"done: ");
+    put_count(a.place as u64, b" of ");
+    put_count(tokens as u64, b" tokens, ");
+    put_count(a.events as u64, b" events, ");
+    put_count(a.lookups as u64, b" lookups, ");
+    put_count(errors, b" errors\n");
 }
 
-fn put_done(out: &mut [u8], at: usize, a: parse::Answer, tokens: usize, errors: u64) -> usize {
-    let n = put_tokens(out, at, a.place, tokens);
-    let n = put_count(out, n, a.events as u64, b" events, ");
-    let n = put_count(out, n, a.lookups as u64, b" lookups, ");
-    put_count(out, n, errors, b" errors\n")
-}
-
-// Resolves the events of a done parse, and puts the tree and the last line.
-fn put_steps(
-    out: &mut [u8],
-    words: &mut [u32],
-    steps: &mut [u8],
-    a: parse::Answer,
-    kinds: &[u16],
-) -> usize
+// Resolves the events of a done parse, and writes the tree and the last line.
+fn put_steps(words: &mut [u32], steps: &mut [u8], a: parse::Answer, kinds: &[u16])
     requires { ⌜ length (now steps) ≤ 1048576 ⌝ }
 {
     let r = events::resolve(words, steps);
     let k = r.place();
     if r.code() != 0 {
-        return put_refused(out, r.code(), k as u64, kinds);
+        put_refused(r.code(), k as u64, kinds);
+        return;
     }
-    if k > steps.len() {
-        return 0;
+    if k <= steps.len() {
+        let errors = put_tree(kinds, &steps[0..k]);
+        put_done(a, kinds.len(), errors);
     }
-    let s = put_tree(out, 0, kinds, &steps[0..k]);
-    put_done(out, s.at, a, kinds.len(), s.errors)
 }
 
 // What an answer comes to as text.
-fn put_answer(out: &mut [u8], room: &mut [u32], a: parse::Answer, kinds: &[u16]) -> usize {
+fn put_answer(room: &mut [u32], a: parse::Answer, kinds: &[u16]) {
     if a.code != 0 {
-        return put_refused(out, a.code, a.place as u64, kinds);
+        put_refused(a.code, a.place as u64, kinds);
+        return;
     }
     let k = EVENT_WORDS * a.events as usize;
-    if k > room.len() {
-        return 0;
+    if k <= room.len() {
+        let mut steps = steps_room();
+        put_steps(&mut room[0..k], &mut steps, a, kinds);
     }
-    let mut steps = steps_room();
-    put_steps(out, &mut room[0..k], &mut steps, a, kinds)
+}
+
+// The entry of a parse.
+fn entry_of(e: tokens::read::Entry) -> Entry {
+    match e {
+        tokens::read::Entry::Source => Entry::SourceFile,
+        tokens::read::Entry::Item => Entry::Item,
+        tokens::read::Entry::Expr => Entry::Expression,
+    }
+}
+
+fn parse_in(entry: Entry, mode: u32, kinds: &[u16], joints: &[u64], room: &mut [u32]) {
+    let a = parse::parse(entry, mode, kinds, joints, room);
+    put_answer(room, a, kinds);
 }
 
 // Parses what is asked for, and writes what comes of it.
 fn run(a: Asked, kinds: &[u16], joints: &[u64]) {
     let n = a.count;
-    if n > kinds.len() {
-        return;
+    if n <= kinds.len() {
+        let e = a.entry;
+        let mut room = words_room();
+        parse_in(entry_of(e), a.mode, &kinds[0..n], joints, &mut room);
     }
-    let entry = a.entry;
-    let mut room = words_room();
-    let answer = parse::parse(entry, a.mode, &kinds[0..n], joints, &mut room);
-    let mut out = io::large_buffer();
-    let k = put_answer(&mut out, &mut room, answer, &kinds[0..n]);
-    flush(&out, k);
 }
 
 fn run_text(text: &[u8]) {
-    let mut kinds = [0u16; 8193];
-    let mut joints = [0u64; 129];
+    let mut kinds = kinds_room();
+    let mut joints = joints_room();
     let a = read(text, &mut kinds, &mut joints);
     if a.bad {
         io::write_all(1, b"bad input\n");

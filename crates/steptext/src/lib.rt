@@ -3,31 +3,27 @@ use records::Step;
 use records::size;
 use stepfile::Found;
 use stepfile::step_at;
-
-fn put_number(n: u64) {
-    io::write_all(1, b" ");
-    io::print_decimal(1, n);
-}
+use text::put_field;
 
 // A step's line.
 fn put_step(s: Step) {
     match s {
         Step::Enter(kind) => {
             io::write_all(1, b"enter");
-            put_number(kind as u64);
+            put_field(kind as u64);
         }
         Step::Leave => {
             io::write_all(1, b"leave");
         }
         Step::Token(kind, count) => {
             io::write_all(1, b"token");
-            put_number(kind as u64);
-            put_number(count as u64);
+            put_field(kind as u64);
+            put_field(count as u64);
         }
         Step::Error(code, argument) => {
             io::write_all(1, b"error");
-            put_number(code as u64);
-            put_number(argument as u64);
+            put_field(code as u64);
+            put_field(argument as u64);
         }
     }
     io::write_all(1, b"\n");
@@ -62,15 +58,15 @@ fn walk(file: &[u8], shown: bool) -> u64 {
 // The steps of a file: how many, and each.
 pub fn put_steps(file: &[u8]) {
     io::write_all(1, b"steps");
-    put_number(walk(file, false));
+    put_field(walk(file, false));
     io::write_all(1, b"\n");
     walk(file, true);
 }
 
 pub fn put_refused(number: u32, place: usize) {
     io::write_all(1, b"refused");
-    put_number(number as u64);
-    put_number(place as u64);
+    put_field(number as u64);
+    put_field(place as u64);
     io::write_all(1, b"\n");
 }
 

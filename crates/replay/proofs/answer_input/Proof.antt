@@ -8,10 +8,10 @@ use Rattle.replay.proofs.answer_input.Statement.{statement}
 use Rattle.replay.proofs.answer_input.Tie as tie
 
 abbrev Inv-loop : tie.InvT-loop
-Inv-loop text₀ out₀ held₀ turns₀ text out held turns = (held < length text) × (length text ≡ length text₀) × (length out ≡ length out₀)
+Inv-loop text₀ held₀ turns₀ text held turns = (held < length text) × (length text ≡ length text₀)
 
 abbrev μ-loop : tie.MeasureT-loop
-μ-loop text₀ out₀ held₀ turns₀ text out held turns = turns
+μ-loop text₀ held₀ turns₀ text held turns = turns
 
 loop-holds : tie.Need-loop-holds Inv-loop μ-loop
 loop-holds c = omega arith
@@ -34,9 +34,6 @@ answer-last-requires c κs = search needs
 same-length : tie.Need-same-length Inv-loop μ-loop
 same-length c = omega arith
 
-same-length-2 : tie.Need-same-length-2 Inv-loop μ-loop
-same-length-2 c = omega arith
-
 returns : tie.Need-returns Inv-loop μ-loop
 returns c = search needs
 
@@ -53,7 +50,7 @@ answer-lines-requires : tie.Need-answer-lines-requires Inv-loop μ-loop
 answer-lines-requires c κs = search needs
 
 keep-requires : tie.Need-keep-requires Inv-loop μ-loop
-keep-requires c κs = omega (arith, simp (length-take, length-drop) at (c .before .before .before .answer-lines .ensures))
+keep-requires c κs = omega (arith, simp (length-take, length-drop) at (c .before .answer-lines .ensures))
 
 sub-turns : tie.Need-sub-turns Inv-loop μ-loop
 sub-turns c = omega arith
@@ -64,11 +61,8 @@ loop-less c = omega arith
 loop-again : tie.Need-loop-again Inv-loop μ-loop
 loop-again c = omega arith
 
-same-length-3 : tie.Need-same-length-3 Inv-loop μ-loop
-same-length-3 c = omega arith
-
-same-length-4 : tie.Need-same-length-4 Inv-loop μ-loop
-same-length-4 c = omega arith
+same-length-2 : tie.Need-same-length-2 Inv-loop μ-loop
+same-length-2 c = omega arith
 
 returns-2 : tie.Need-returns-2 Inv-loop μ-loop
 returns-2 c = search needs
@@ -86,7 +80,6 @@ answer-input-spec =
     part-answer-last-end
     answer-last-requires
     same-length
-    same-length-2
     returns
     sub-answer-lines
     part-answer-lines-start
@@ -96,6 +89,5 @@ answer-input-spec =
     sub-turns
     loop-less
     loop-again
-    same-length-3
-    same-length-4
+    same-length-2
     returns-2)

@@ -1,29 +1,22 @@
 -- `replay::answer_lines` is safe and ends: the place moves past a line feed. Assumes nothing.
 use native.Mathlib.Omega.{arith}
 use borrow.Author.Needs.{needs}
-use mathlib.Core.Path.{_≡_}
 use Prim.Native.Nat.{_-_, _≤_}
 use lib.ListN.{length}
 use Rattle.replay.proofs.answer_lines.Statement.{statement}
 use Rattle.replay.proofs.answer_lines.Tie as tie
 
 abbrev Inv-loop : tie.InvT-loop
-Inv-loop text out₀ at₀ put₀ out at put = (at ≤ length text) × (length out ≡ length out₀)
+Inv-loop text at₀ at = at ≤ length text
 
 abbrev μ-loop : tie.MeasureT-loop
-μ-loop text out₀ at₀ put₀ out at put = length text - at
+μ-loop text at₀ at = length text - at
 
 loop-holds : tie.Need-loop-holds Inv-loop μ-loop
 loop-holds c = omega arith
 
 line-end-requires : tie.Need-line-end-requires Inv-loop μ-loop
 line-end-requires c κs = search needs
-
-flush-requires : tie.Need-flush-requires Inv-loop μ-loop
-flush-requires c κs = search needs
-
-same-length : tie.Need-same-length Inv-loop μ-loop
-same-length c = omega arith
 
 returns : tie.Need-returns Inv-loop μ-loop
 returns c = search needs
@@ -57,8 +50,6 @@ answer-lines-spec =
     μ-loop
     loop-holds
     line-end-requires
-    flush-requires
-    same-length
     returns
     sub-answer
     part-answer-start
