@@ -1,7 +1,9 @@
-// A reader: it holds the lent kinds and a position, and answers what stands there. The borrow checker covers no function over such a
-// struct, so each is thin and proved by hand; the work is done by `kind_at`, which takes a plain slice and is covered, and everyone
-// else calls `first_kind`.
+// A reader: it holds the lent kinds and a position, and answers what stands there and ahead of it. The borrow checker covers no function
+// over such a struct, so each is thin and proved by hand; the work is done by `kind_ahead`, which takes a plain slice and is covered, and
+// everyone else calls `found_at`.
+use kinds::syntax_kind_enum as k;
 ghost use mathlib.Core.Path.{_≡_};
+ghost use Prim.Native.Nat.{_+_};
 ghost use Rattle.input.specs.Input.{kind};
 
 // The lent kinds and a position among them.
@@ -10,11 +12,16 @@ pub struct Reader<'a> {
     pub at: usize,
 }
 
-// The kind at a position; beyond the last token it is EOF.
-pub fn kind_at(kinds: &[u16], at: usize) -> u16
-    ensures { λ r. ⌜ r ≡ kind (now (kinds .entry)) at ⌝ }
+// The kind so many tokens ahead of a position; beyond the last token it is EOF, also where the sum is beyond 64 bits.
+pub fn kind_ahead(kinds: &[u16], at: usize, n: usize) -> u16
+    ensures { λ r. ⌜ r ≡ kind (now (kinds .entry)) (at + n) ⌝ }
 {
-    input::kind(kinds, 0, at)
+    if at < kinds.len() {
+        if n < kinds.len() - at {
+            return input::kind(kinds, 0, at + n);
+        }
+    }
+    k::EOF
 }
 
 // A reader at the first token.
@@ -31,11 +38,18 @@ pub fn at<'a>(r: Reader<'a>) -> usize
     r.at
 }
 
-// The kind at its position: no lookup is counted.
+// The kind so many tokens ahead of its position: no lookup is counted.
+pub fn ahead<'a>(r: Reader<'a>, n: usize) -> u16
+    ensures { λ s. ⌜ s ≡ kind (now (r .entry .kinds)) (r .entry .at + n) ⌝ }
+{
+    kind_ahead(r.kinds, r.at, n)
+}
+
+// The kind at its position.
 pub fn current<'a>(r: Reader<'a>) -> u16
     ensures { λ s. ⌜ s ≡ kind (now (r .entry .kinds)) (r .entry .at) ⌝ }
 {
-    kind_at(r.kinds, r.at)
+    ahead(r, 0)
 }
 
 // The reader at another position.
@@ -45,9 +59,9 @@ pub fn moved<'a>(r: Reader<'a>, at: usize) -> Reader<'a>
     Reader { kinds: r.kinds, at }
 }
 
-// The first kind of some tokens, EOF where there is none.
-pub fn first_kind(kinds: &[u16]) -> u16
-    ensures { λ r. ⌜ r ≡ kind (now (kinds .entry)) 0 ⌝ }
+// The kind at a position of some tokens, for a caller that holds no reader.
+pub fn found_at(kinds: &[u16], at: usize) -> u16
+    ensures { λ r. ⌜ r ≡ kind (now (kinds .entry)) at ⌝ }
 {
-    current(new(kinds))
+    ahead(new(kinds), at)
 }

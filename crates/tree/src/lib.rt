@@ -62,11 +62,7 @@ fn put_said(code: u64, argument: u64) {
 
 // The kind that stands at a place, EOF behind the last token.
 fn found(kinds: &[u16], place: u64) -> u16 {
-    let i = place as usize;
-    if i > kinds.len() {
-        return lookahead::first_kind(&kinds[0..0]);
-    }
-    lookahead::first_kind(&kinds[i..])
+    lookahead::found_at(kinds, place as usize)
 }
 
 // What stands at a place.
