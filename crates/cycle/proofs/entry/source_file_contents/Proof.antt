@@ -10,7 +10,7 @@ use Rattle.runtime.proofs.Laws.{then, see, ends, falls, left-on, Ran, ran-none,
 use Rattle.operators.specs.Operators.{tableOf}
 use Rattle.grammar.specs.Items as I
 use Rattle.grammar.specs.Entry.{counted}
-use Rattle.cycle.proofs.Depth.{item-spends}
+use Rattle.grammar.proofs.Spends.{item-spends}
 use Rattle.cycle.proofs.entry.source_file_contents.Statement.{statement}
 use Rattle.cycle.proofs.entry.source_file_contents.Tie as tie
 
