@@ -261,8 +261,8 @@ pub fn messages() -> [u8; 1265]
 }
 
 // What is said of the number of an answer (docs/RULES.md, section 10).
-pub fn numbers() -> [u8; 373]
-    ensures { λ r. ⌜ 373 ≡ length r ⌝ }
+pub fn numbers() -> [u8; 384]
+    ensures { λ r. ⌜ 384 ≡ length r ⌝ }
 {
     *b"\
     done\n\
@@ -272,7 +272,7 @@ pub fn numbers() -> [u8; 373]
     no token of a program has this kind\n\
     the program makes more than 65,536 events\n\
     the program is nested deeper than 64 levels here\n\
-    the parser would look at this place without end\n\
+    the parser has looked here 10,000 times and taken no token\n\
     what must stand here does not, and there is no message for it\n\
     the events make no tree\n\
     the steps find no room\n\
