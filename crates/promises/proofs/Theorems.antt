@@ -23,13 +23,14 @@ use Rattle.records.specs.declared.Step.the-variants.{Enter as enter}
 use Rattle.records.specs.Record.{bytes, over}
 use Rattle.stepfile.specs.Answer as S
 use Rattle.stepfile.specs.File.{fileRead}
-use Rattle.events.specs.Answer.{Numbers, says}
-use Rattle.events.specs.Check.{checked}
-use Rattle.events.specs.Process.{process, stepsOf, file}
+use Rattle.lists.specs.Answer.{Numbers, says}
+use Rattle.lists.specs.Check.{checked}
+use Rattle.own.specs.Own.{need}
+use Rattle.process.specs.Process.{process, stepsOf, file}
 use Rattle.events.specs.Resolve.{ends, resolved}
-use Rattle.events.specs.Shape.{closes, from, need, others, plain}
-use Rattle.events.proofs.Order.{in-order}
-use Rattle.events.proofs.Theorems.{passing-resolves, passing-closes, entered-once}
+use Rattle.listed.specs.Shape.{closes, from, others, plain}
+use Rattle.listed.proofs.Order.{in-order}
+use Rattle.listed.proofs.Theorems.{passing-resolves, passing-closes, entered-once}
 use Rattle.parse.specs.declared.Entry.{Entry}
 use Rattle.parse.specs.declared.Entry.the-variants.{SourceFile}
 use Rattle.parse.specs.Parse.{Lent, Outcome, notPermitted, actsOf, ran, leaves, parsed}

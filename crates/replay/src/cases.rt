@@ -236,7 +236,7 @@ fn check_case(line: &[u8], from: usize, out: &mut [u8], at: usize) -> usize
     if !l.ends(line) {
         return put_bad(out, at);
     }
-    let a = events::check(&words[0..n]);
+    let a = lists::check(&words[0..n]);
     put_place(out, at, a.code(), a.place() as u64)
 }
 
@@ -254,7 +254,7 @@ fn left_state(code: u32, words: &[u32], kept: &[u32], rest: &[u8]) -> State {
 }
 
 // The bytes of the file that an answer has.
-fn file_bytes(a: events::Answer) -> usize {
+fn file_bytes(a: lists::Answer) -> usize {
     if a.code() == 0 {
         return a.place();
     }
@@ -264,7 +264,7 @@ fn file_bytes(a: events::Answer) -> usize {
 fn put_resolve(
     out: &mut [u8],
     at: usize,
-    a: events::Answer,
+    a: lists::Answer,
     words: &[u32],
     kept: &[u32],
     room: &[u8],
