@@ -29,7 +29,9 @@ use Rattle.own.specs.Own.{need}
 use Rattle.process.specs.Process.{process, stepsOf, file}
 use Rattle.events.specs.Resolve.{ends, resolved}
 use Rattle.listed.specs.Shape.{closes, from, others, plain}
+use Rattle.listed.specs.WellFormed.{WellFormed}
 use Rattle.listed.proofs.Order.{in-order}
+use Rattle.listed.proofs.Checking.{passing-formed}
 use Rattle.listed.proofs.Theorems.{passing-resolves, passing-closes, entered-once}
 use Rattle.parse.specs.declared.Entry.{Entry}
 use Rattle.parse.specs.declared.Entry.the-variants.{SourceFile}
@@ -77,7 +79,11 @@ module _ (l : Lent) (done : parsed l .answer .code ≡ 0) where
   passes : checked (handed (parsed l)) .code ≡ 0
   passes = ap (λ (n : Numbers). n .code) list-passes
 
-  -- So it resolves, given room: the bytes needed are said, tombstones and the step file are left.
+  -- So it is well formed, in the words of the rules.
+  pub list-formed : WellFormed (eventsOf (handed (parsed l)))
+  list-formed = passing-formed (handed (parsed l)) passes .2
+
+  -- It resolves, given room: the bytes needed are said, tombstones and the step file are left.
   pub list-resolves : (out : List ℕ) → need (eventsOf (handed (parsed l))) ≤ length out
       → resolved (handed (parsed l)) out
       ≡ ends (says 0 (need (eventsOf (handed (parsed l))))) (wordsOf (replicate (length (eventsOf (handed (parsed l)))) tombstone)) (over out 0 (file (process (eventsOf (handed (parsed l))) .steps)))
