@@ -20,10 +20,10 @@ use Rattle.grammar.specs.Items.{break, continue, end, filepathR, defcalgrammar,
 use Rattle.grammar.specs.Entry.{counted, sourceFile, oneItem, oneExpression}
 use Rattle.records.specs.declared.Step.{Step}
 use Rattle.records.specs.declared.Step.the-variants.{Enter as enter, Leave as leave, Token as taken, Error as failed}
-use Rattle.events.specs.Answer as A
+use Rattle.lists.specs.Answer as A
 use Rattle.records.specs.Record.{bytes}
-use Rattle.events.specs.Check.{next, scan, checked}
-use Rattle.events.specs.Process.{follow, entered, turn, turns}
+use Rattle.lists.specs.Check.{next, scan, checked}
+use Rattle.process.specs.Process.{follow, entered, turn, turns}
 use Rattle.events.specs.Resolve.{resolved}
 use Rattle.events.specs.Examples as lists
 use Rattle.parse.specs.declared.Entry.the-variants.{SourceFile, Item, Expression}

@@ -5,7 +5,7 @@ use mathlib.Core.Path.{_≡_, refl, ap, _∙_}
 use mathlib.Core.List.{List, []}
 use lib.ListN.{length, set}
 use borrow.Author.Tests.{eq-eqb, ne-eqb, lt-ltb, le-ltb}
-use Rattle.events.specs.Answer.{Numbers}
+use Rattle.lists.specs.Answer.{Numbers}
 use Rattle.events.specs.Resolve.{Outcome, ends}
 use Rattle.parse.specs.declared.Answer.{Answer}
 use Rattle.parse.specs.Parse as P

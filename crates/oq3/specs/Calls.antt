@@ -4,7 +4,7 @@ use mathlib.Core.Bool.{cond}
 use mathlib.Core.List.{List, []}
 use lib.Dec.{eqb, ltb}
 use lib.ListN.{length, set}
-use Rattle.events.specs.Check.{checked}
+use Rattle.lists.specs.Check.{checked}
 use Rattle.events.specs.Resolve.{Outcome, ends, panics, resolved}
 use Rattle.parse.specs.declared.Answer.{Answer}
 use Rattle.parse.specs.declared.Entry.the-variants.{SourceFile, Item, Expression}

@@ -78,7 +78,7 @@ pub extern "C" fn oq3_check(words: &[u32], answer: &mut [u64]) -> u32
     if answer.len() == 0 {
         return 100;
     }
-    let a = events::check(words);
+    let a = lists::check(words);
     answer[0] = a.place() as u64;
     a.code()
 }

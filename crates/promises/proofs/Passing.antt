@@ -11,8 +11,8 @@ use Rattle.event.specs.declared.Event.{Event}
 use Rattle.event.specs.declared.Event.the-variants.{Start, Finish, Token, Error, NoEvent}
 use Rattle.event.specs.Event.{wordsOf, isStart, distance}
 use Rattle.event.proofs.Rooms.{length-words, events-words}
-use Rattle.events.specs.Answer.{says}
-use Rattle.events.specs.Check.{lands, next, scan, checked}
+use Rattle.lists.specs.Answer.{says}
+use Rattle.lists.specs.Check.{lands, next, scan, checked}
 use Rattle.markers.proofs.Balance.{Balanced}
 use Rattle.markers.proofs.Marks.{Marks, at, Links}
 use Rattle.markers.proofs.Live.{Live}

@@ -23,13 +23,16 @@ use Rattle.records.specs.declared.Step.the-variants.{Enter as enter}
 use Rattle.records.specs.Record.{bytes, over}
 use Rattle.stepfile.specs.Answer as S
 use Rattle.stepfile.specs.File.{fileRead}
-use Rattle.events.specs.Answer.{Numbers, says}
-use Rattle.events.specs.Check.{checked}
-use Rattle.events.specs.Process.{process, stepsOf, file}
+use Rattle.lists.specs.Answer.{Numbers, says}
+use Rattle.lists.specs.Check.{checked}
+use Rattle.own.specs.Own.{need}
+use Rattle.process.specs.Process.{process, stepsOf, file}
 use Rattle.events.specs.Resolve.{ends, resolved}
-use Rattle.events.specs.Shape.{closes, from, need, others, plain}
-use Rattle.events.proofs.Order.{in-order}
-use Rattle.events.proofs.Theorems.{passing-resolves, passing-closes, entered-once}
+use Rattle.listed.specs.Shape.{closes, from, others, plain}
+use Rattle.listed.specs.WellFormed.{WellFormed}
+use Rattle.listed.proofs.Order.{in-order}
+use Rattle.listed.proofs.Checking.{passing-formed}
+use Rattle.listed.proofs.Theorems.{passing-resolves, passing-closes, entered-once}
 use Rattle.parse.specs.declared.Entry.{Entry}
 use Rattle.parse.specs.declared.Entry.the-variants.{SourceFile}
 use Rattle.parse.specs.Parse.{Lent, Outcome, notPermitted, actsOf, ran, leaves, parsed}
@@ -76,7 +79,11 @@ module _ (l : Lent) (done : parsed l .answer .code ≡ 0) where
   passes : checked (handed (parsed l)) .code ≡ 0
   passes = ap (λ (n : Numbers). n .code) list-passes
 
-  -- So it resolves, given room: the bytes needed are said, tombstones and the step file are left.
+  -- So it is well formed, in the words of the rules.
+  pub list-formed : WellFormed (eventsOf (handed (parsed l)))
+  list-formed = passing-formed (handed (parsed l)) passes .2
+
+  -- It resolves, given room: the bytes needed are said, tombstones and the step file are left.
   pub list-resolves : (out : List ℕ) → need (eventsOf (handed (parsed l))) ≤ length out
       → resolved (handed (parsed l)) out
       ≡ ends (says 0 (need (eventsOf (handed (parsed l))))) (wordsOf (replicate (length (eventsOf (handed (parsed l)))) tombstone)) (over out 0 (file (process (eventsOf (handed (parsed l))) .steps)))

@@ -12,12 +12,12 @@ use Rattle.event.specs.declared.Event.the-variants.{Start, Finish, Token, Error
 use Rattle.event.specs.Event.{distance}
 use Rattle.records.specs.declared.Step.{Step}
 use Rattle.records.specs.declared.Step.the-variants.{Enter as enter, Leave as leave, Token as taken, Error as failed}
-use Rattle.events.specs.Check.{lands, scan}
-use Rattle.events.specs.Process.{Parent, follow, entered, turn, turns, stepsOf}
-use Rattle.events.specs.Shape.{closes}
-use Rattle.events.proofs.Running.{length-turn}
+use Rattle.lists.specs.Check.{lands, scan}
+use Rattle.process.specs.Process.{Parent, follow, entered, turn, turns, stepsOf}
+use Rattle.listed.specs.Shape.{closes}
+use Rattle.process.proofs.Running.{length-turn}
 use Rattle.events.proofs.Passing.{lands-follow}
-use Rattle.events.proofs.Depth.{closes-turns}
+use Rattle.listed.proofs.Depth.{closes-turns}
 use Rattle.stepfile.specs.Nesting.{nest, nests}
 use Rattle.promises.specs.Promised.{Rooted}
 use Rattle.promises.proofs.Passing.{Chain}

@@ -15,13 +15,13 @@ use Rattle.laws.proofs.Tests.{by-test}
 use Rattle.event.specs.declared.Event.{Event}
 use Rattle.event.specs.declared.Event.the-variants.{Start, Finish, Token, Error, NoEvent}
 use Rattle.event.specs.Event.{decode, eventsOf, wordsOf, tombstone}
-use Rattle.events.specs.Answer.{says}
-use Rattle.events.specs.Check.{checked}
-use Rattle.events.specs.Process.{Parent, placed, follow, enters, entered, turn, turns, process, stepsOf}
+use Rattle.lists.specs.Answer.{says}
+use Rattle.lists.specs.Check.{checked}
+use Rattle.own.specs.Own.{enters, own, need}
+use Rattle.process.specs.Process.{Parent, placed, follow, entered, turn, turns, process, stepsOf}
 use Rattle.events.specs.Resolve.{ends, resolved}
-use Rattle.events.specs.Shape.{own, need}
 use Rattle.events.proofs.Passing.{process-need}
-use Rattle.events.proofs.Theorems.{passing-resolves}
+use Rattle.listed.proofs.Theorems.{passing-resolves}
 use Rattle.stepfile.specs.Answer as S
 use Rattle.stepfile.specs.Nesting.{nest, nests}
 use Rattle.stepfile.specs.File.{fileRead}

@@ -99,7 +99,7 @@ fn parse_case(line: &[u8], from: usize, entry: Entry)
 }
 
 fn put_check(words: &[u32]) {
-    let a = events::check(words);
+    let a = lists::check(words);
     put_place(a.code(), a.place() as u64);
 }
 
@@ -117,7 +117,7 @@ fn check_case(line: &[u8], from: usize)
 }
 
 // The bytes of the file that an answer has.
-fn file_bytes(a: events::Answer) -> usize {
+fn file_bytes(a: lists::Answer) -> usize {
     if a.code() == 0 {
         return a.place();
     }

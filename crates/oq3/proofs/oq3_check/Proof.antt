@@ -1,6 +1,6 @@
 -- `oq3::oq3_check` meets its contract: the check's answer, told.
 -- Assumes nothing.
-use Rattle.events.specs.Answer.{Numbers}
+use Rattle.lists.specs.Answer.{Numbers}
 use Rattle.events.specs.Resolve.{ends}
 use Rattle.oq3.proofs.Told.{no-room, is-told}
 use mathlib.Core.Path.{sym, ap}

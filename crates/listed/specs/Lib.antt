@@ -1,0 +1,4 @@
+pub mod Shape
+pub mod WellFormed
+pub mod Conditions
+pub mod Examples
