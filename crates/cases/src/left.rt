@@ -1,6 +1,7 @@
 // How a call left what it was lent, on standard output.
 use crate::show::put_bytes;
 use crate::show::put_words;
+use text::table::put_entry;
 
 // A word of a parse's room, and a byte of the step room, before the call.
 pub const WORD: u32 = 3735928559;
@@ -61,32 +62,43 @@ fn equal(a: &[u32], b: &[u32]) -> bool {
     true
 }
 
-// Writes the first state that holds of two, the one that a call must leave first.
-fn put_first(a: bool, x: &[u8], b: bool, y: &[u8]) {
+// States of what was lent, by their numbers.
+const LIST: u64 = 0;
+
+const ZERO: u64 = 1;
+
+const SAME: u64 = 2;
+
+const BARE: u64 = 3;
+
+const OTHER: u64 = 4;
+
+fn put_state(s: u64) {
+    put_entry(b" list\n zero\n same\n bare\n other\n", s);
+}
+
+// The first state that holds of two, the one that a call must leave first.
+fn either(a: bool, x: u64, b: bool, y: u64) -> u64 {
     if a {
-        io::write_all(1, x);
-        return;
+        return x;
     }
     if b {
-        io::write_all(1, y);
-        return;
+        return y;
     }
-    io::write_all(1, b" other");
+    OTHER
 }
 
 // How a parse left the words that are no events.
-fn put_rest(code: u32, rest: &[u32]) {
+fn rest_state(code: u32, rest: &[u32]) -> u64 {
     let zero = all_words(rest, 0);
     let same = all_words(rest, WORD);
     if code == 0 {
-        put_first(zero, b" list", false, b"");
-        return;
+        return either(zero, LIST, false, OTHER);
     }
     if code >= 5 {
-        put_first(zero, b" zero", same, b" same");
-        return;
+        return either(zero, ZERO, same, SAME);
     }
-    put_first(same, b" same", zero, b" zero");
+    either(same, SAME, zero, ZERO)
 }
 
 // Writes how a parse left its room, whose first words are the events.
@@ -95,24 +107,22 @@ pub fn put_parsed(code: u32, words: usize, room: &[u32]) {
         io::write_all(1, b" other -");
         return;
     }
-    put_rest(code, &room[words..]);
+    put_state(rest_state(code, &room[words..]));
     io::write_all(1, b" ");
     put_words(&room[0..words]);
 }
 
 // How a resolution left the list, which was `kept`, and the bytes behind the file.
-fn put_list(code: u32, words: &[u32], kept: &[u32], rest: &[u8]) {
+fn list_state(code: u32, words: &[u32], kept: &[u32], rest: &[u8]) -> u64 {
     if !all_bytes(rest, BYTE) {
-        io::write_all(1, b" other");
-        return;
+        return OTHER;
     }
     let bare = all_bare(words);
     let same = equal(words, kept);
     if code == 0 {
-        put_first(bare, b" bare", same, b" same");
-        return;
+        return either(bare, BARE, same, SAME);
     }
-    put_first(same, b" same", bare, b" bare");
+    either(same, SAME, bare, BARE)
 }
 
 // Writes how a resolution left its room, whose first bytes are the file, and the list.
@@ -123,5 +133,5 @@ pub fn put_resolved(code: u32, bytes: usize, room: &[u8], words: &[u32], kept: &
     }
     io::write_all(1, b" ");
     put_bytes(&room[0..bytes]);
-    put_list(code, words, kept, &room[bytes..]);
+    put_state(list_state(code, words, kept, &room[bytes..]));
 }

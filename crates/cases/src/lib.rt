@@ -9,6 +9,9 @@ use numbers::numbers_at;
 use numbers::words_at;
 use text::number::Number;
 use text::number::field;
+use text::put;
+use text::table::Found;
+use text::table::find;
 ghost use Prim.Native.Nat.{_≤_};
 ghost use lib.ListN.{length};
 
@@ -17,21 +20,32 @@ pub const WORDS: usize = 131080;
 
 pub const BYTES: usize = 524296;
 
-// What a line asks for: a parse from an entry, the check or the resolution of a list, or that it is copied.
-pub enum What {
-    Source,
-    Item,
-    Expr,
-    Check,
-    Resolve,
-    Copy,
-    Nothing,
+// The first words of a line, by their number: a parse from one of the three entries, the check, resolution, and a line that is copied.
+pub fn head(line: &[u8]) -> Found
+    ensures { λ r. ⌜ r .next ≤ length (now (line .entry)) ⌝ }
+{
+    find(
+        b"parse source\nparse item\nparse expr\ncheck\nresolve\n#\n",
+        line,
+        false,
+    )
 }
 
-// That, and the place past the words that say it.
-pub struct Head {
-    pub what: What,
-    pub from: usize,
+// What a line that is no case is answered.
+pub fn put_bad() {
+    io::write_all(1, b"bad line");
+}
+
+// The number and the place of an answer, and of a parse also its events and lookups.
+pub fn put_place(code: u32, place: usize) {
+    put(b"% %", &[code as u64, place as u64]);
+}
+
+pub fn put_counts(code: u32, place: u32, events: u32, lookups: u32) {
+    put(
+        b"% % % %",
+        &[code as u64, place as u64, events as u64, lookups as u64],
+    );
 }
 
 // What a parse is lent: the mode, the words of the room, and how many kinds and joint words were read.
@@ -49,81 +63,6 @@ pub struct Resolve {
     pub list: usize,
     pub words: usize,
     pub ok: bool,
-}
-
-// The place past some words that a line begins with, 0 where it does not.
-fn past_words(line: &[u8], words: &[u8]) -> usize
-    ensures { λ r. ⌜ r ≤ length (now (line .entry)) ⌝ }
-{
-    let mut i = 0;
-    while i < words.len() {
-        if i >= line.len() {
-            return 0;
-        }
-        if line[i] != words[i] {
-            return 0;
-        }
-        i += 1;
-    }
-    i
-}
-
-// What a line asks for that is no parse.
-fn other_head(line: &[u8]) -> Head
-    ensures { λ r. ⌜ r .from ≤ length (now (line .entry)) ⌝ }
-{
-    let from = past_words(line, b"check");
-    if from > 0 {
-        return Head {
-            what: What::Check,
-            from,
-        };
-    }
-    let from = past_words(line, b"resolve");
-    if from > 0 {
-        return Head {
-            what: What::Resolve,
-            from,
-        };
-    }
-    let from = past_words(line, b"#");
-    if from > 0 {
-        return Head {
-            what: What::Copy,
-            from,
-        };
-    }
-    Head {
-        what: What::Nothing,
-        from,
-    }
-}
-
-pub fn head_of(line: &[u8]) -> Head
-    ensures { λ r. ⌜ r .from ≤ length (now (line .entry)) ⌝ }
-{
-    let from = past_words(line, b"parse source");
-    if from > 0 {
-        return Head {
-            what: What::Source,
-            from,
-        };
-    }
-    let from = past_words(line, b"parse item");
-    if from > 0 {
-        return Head {
-            what: What::Item,
-            from,
-        };
-    }
-    let from = past_words(line, b"parse expr");
-    if from > 0 {
-        return Head {
-            what: What::Expr,
-            from,
-        };
-    }
-    other_head(line)
 }
 
 // A parse as its numbers say, unless one of them is missing.

@@ -3,6 +3,7 @@ use text::line_end;
 use text::number::Number;
 use text::number::field;
 use text::past;
+use text::table::find;
 ghost use mathlib.Core.Path.{_≡_};
 ghost use mathlib.Core.Bool.{true};
 ghost use Prim.Native.Nat.{_+_, _*_, _≤_, _<_};
@@ -40,77 +41,56 @@ fn kind(line: &[u8], at: usize) -> Number
     field(line, at)
 }
 
-// The tag of a line with two numbers, 0 for none.
-fn tag(b: u8) -> u32
+// The tag of an event, by the number of its letter.
+fn tag_of(n: u64) -> u32
     ensures { λ r. ⌜ r ≤ 4 ⌝ }
 {
-    if b == b'S' {
-        return 1;
+    match n {
+        0 => 1,
+        2 => 3,
+        _ => 4,
     }
-    if b == b'T' {
-        return 3;
+}
+
+fn made(first: u32, second: u32) -> Words {
+    Words { first, second }
+}
+
+// The words of a line with a tag and two numbers.
+fn pair(line: &[u8], tag: u32) -> Words
+    requires { ⌜ (1 ≤ length (now line)) × (tag ≤ 4) ⌝ }
+{
+    let k = kind(line, 1);
+    let n = field(line, k.next);
+    if k.ok {
+        if k.value < 65536 {
+            if n.ends(line) {
+                return made(tag * 65536 + k.value as u32, n.value as u32);
+            }
+        }
     }
-    if b == b'E' {
-        return 4;
-    }
-    0
+    made(0, 0)
 }
 
 // The words of a line. One that is no event becomes 0, 0, which is none either, so that the check refuses it.
 fn event(line: &[u8]) -> Words {
-    let none = Words {
-        first: 0,
-        second: 0,
-    };
-    if line.len() == 0 {
-        return none;
+    let f = find(b"S\nF\nT\nE\n", line, false);
+    if f.next == 0 {
+        return made(0, 0);
     }
-    let c = line[0];
-    if c == b'F' {
-        if line.len() == 1 {
-            return Words {
-                first: 131072,
-                second: 0,
-            };
-        }
-        return none;
+    if f.number != 1 {
+        return pair(line, tag_of(f.number));
     }
-    let t = tag(c);
-    if t == 0 {
-        return none;
-    }
-    let k = kind(line, 1);
-    if !k.ok {
-        return none;
-    }
-    if k.value >= 65536 {
-        return none;
-    }
-    let n = field(line, k.next);
-    if !n.ok {
-        return none;
-    }
-    if n.next != line.len() {
-        return none;
-    }
-    Words {
-        first: t * 65536 + k.value as u32,
-        second: n.value as u32,
+    if line.len() == 1 {
+        made(131072, 0)
+    } else {
+        made(0, 0)
     }
 }
 
 // Whether a line stands between two lists.
 fn is_rule(line: &[u8]) -> bool {
-    if line.len() != 3 {
-        return false;
-    }
-    if line[0] != b'-' {
-        return false;
-    }
-    if line[1] != b'-' {
-        return false;
-    }
-    line[2] == b'-'
+    find(b"---\n", line, true).next > 0
 }
 
 // Puts a line's words behind the first n, and answers how many there are then. An empty line has none.

@@ -1,5 +1,5 @@
-// Reads a step file on standard input, and writes its steps in the form of the listing (docs/RULES.md, section 9), or `refused NUMBER PLACE`
-// and no step where the whole file is not good. It holds 1,048,575 bytes.
+// Shows the step file on standard input (docs/RULES.md, section 9).
+
 fn show_input(file: &mut [u8]) {
     let n = io::read_full(0, file);
     // one that fills the room may be longer

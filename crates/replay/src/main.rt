@@ -1,19 +1,20 @@
 // Replays cases from standard input, a line each, and writes a line for each (docs/RULES.md, section 11).
 use cases::BYTES;
 use cases::WORDS;
-use cases::What;
-use cases::head_of;
+use cases::head;
 use cases::left::BYTE;
 use cases::left::WORD;
 use cases::left::put_parsed;
 use cases::left::put_resolved;
 use cases::numbers::words_at;
+use cases::put_bad;
+use cases::put_counts;
+use cases::put_place;
 use cases::read_parse;
 use cases::read_resolve;
 use event::EVENT_WORDS;
 use parse::Entry;
 use text::line_end;
-use text::put_field;
 use text::stream::keep;
 use text::stream::read_behind;
 ghost use mathlib.Core.Path.{_≡_};
@@ -45,16 +46,6 @@ fn joints_room() -> [u64; 256]
     [0; 256]
 }
 
-fn put_bad() {
-    io::write_all(1, b"bad line");
-}
-
-// A code and a place.
-fn put_place(code: u32, place: u64) {
-    io::print_decimal(1, code as u64);
-    put_field(place);
-}
-
 // The words of the events that an answer has.
 fn event_words(a: parse::Answer) -> usize {
     if a.code == 0 {
@@ -64,9 +55,7 @@ fn event_words(a: parse::Answer) -> usize {
 }
 
 fn put_parse(a: parse::Answer, room: &[u32]) {
-    put_place(a.code, a.place as u64);
-    put_field(a.events as u64);
-    put_field(a.lookups as u64);
+    put_counts(a.code, a.place, a.events, a.lookups);
     put_parsed(a.code, event_words(a), room);
 }
 
@@ -100,7 +89,7 @@ fn parse_case(line: &[u8], from: usize, entry: Entry)
 
 fn put_check(words: &[u32]) {
     let a = lists::check(words);
-    put_place(a.code(), a.place() as u64);
+    put_place(a.code(), a.place());
 }
 
 fn check_case(line: &[u8], from: usize)
@@ -127,7 +116,7 @@ fn file_bytes(a: lists::Answer) -> usize {
 // Resolves a list, which was `kept`, and writes the answer.
 fn resolve_in(words: &mut [u32], kept: &[u32], room: &mut [u8]) {
     let a = events::resolve(words, room);
-    put_place(a.code(), a.place() as u64);
+    put_place(a.code(), a.place());
     put_resolved(a.code(), file_bytes(a), room, words, kept);
 }
 
@@ -156,20 +145,20 @@ fn resolve_case(line: &[u8], from: usize)
     }
 }
 
-// Answers a line, without its line feed.
+// Answers a line, without its line feed, by its first words.
 fn answer_case(line: &[u8]) {
-    let h = head_of(line);
-    let what = h.what;
-    match what {
-        What::Source => parse_case(line, h.from, Entry::SourceFile),
-        What::Item => parse_case(line, h.from, Entry::Item),
-        What::Expr => parse_case(line, h.from, Entry::Expression),
-        What::Check => check_case(line, h.from),
-        What::Resolve => resolve_case(line, h.from),
-        What::Copy => {
+    let h = head(line);
+    let number = h.number;
+    match number {
+        0 => parse_case(line, h.next, Entry::SourceFile),
+        1 => parse_case(line, h.next, Entry::Item),
+        2 => parse_case(line, h.next, Entry::Expression),
+        3 => check_case(line, h.next),
+        4 => resolve_case(line, h.next),
+        5 => {
             io::write_all(1, line);
         }
-        What::Nothing => put_bad(),
+        _ => put_bad(),
     }
 }
 

@@ -3,9 +3,8 @@ use event::EVENT_WORDS;
 use parse::Entry;
 use tokens::read::Asked;
 use tokens::read::read;
-use tokens::table::put_number;
-use tree::put_found;
-use tree::put_place;
+use tree::put_done;
+use tree::put_refused;
 use tree::put_tree;
 ghost use mathlib.Core.Path.{_≡_};
 ghost use Prim.Native.Nat.{_≤_};
@@ -37,42 +36,6 @@ fn steps_room() -> [u8; 524288]
     [0; 524288]
 }
 
-// What stands at the place of a refusal, where that is a token's.
-fn put_here(number: u32, place: u64, kinds: &[u16]) {
-    if number < 4 {
-        return;
-    }
-    if number > 8 {
-        return;
-    }
-    put_found(kinds, place);
-}
-
-fn put_refused(number: u32, place: u64, kinds: &[u16]) {
-    io::write_all(1, b"refused ");
-    io::print_decimal(1, number as u64);
-    put_place(place);
-    io::write_all(1, b": ");
-    put_number(number as u64);
-    put_here(number, place, kinds);
-    io::write_all(1, b"\n");
-}
-
-// A number and what it counts.
-fn put_count(n: u64, what: &[u8]) {
-    io::print_decimal(1, n);
-    io::write_all(1, what);
-}
-
-fn put_done(a: parse::Answer, tokens: usize, errors: u64) {
-    io::write_all(1, b"done: ");
-    put_count(a.place as u64, b" of ");
-    put_count(tokens as u64, b" tokens, ");
-    put_count(a.events as u64, b" events, ");
-    put_count(a.lookups as u64, b" lookups, ");
-    put_count(errors, b" errors\n");
-}
-
 // Resolves the events of a done parse, and writes the tree and the last line.
 fn put_steps(words: &mut [u32], steps: &mut [u8], a: parse::Answer, kinds: &[u16])
     requires { ⌜ length (now steps) ≤ 1048576 ⌝ }
@@ -85,7 +48,7 @@ fn put_steps(words: &mut [u32], steps: &mut [u8], a: parse::Answer, kinds: &[u16
     }
     if k <= steps.len() {
         let errors = put_tree(kinds, &steps[0..k]);
-        put_done(a, kinds.len(), errors);
+        put_done(a.place, kinds.len(), a.events, a.lookups, errors);
     }
 }
 

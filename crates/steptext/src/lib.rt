@@ -3,30 +3,18 @@ use records::Step;
 use records::size;
 use stepfile::Found;
 use stepfile::step_at;
-use text::put_field;
+use text::put;
 
 // A step's line.
 fn put_step(s: Step) {
     match s {
-        Step::Enter(kind) => {
-            io::write_all(1, b"enter");
-            put_field(kind as u64);
-        }
+        Step::Enter(kind) => put(b"enter %\n", &[kind as u64]),
         Step::Leave => {
-            io::write_all(1, b"leave");
+            io::write_all(1, b"leave\n");
         }
-        Step::Token(kind, count) => {
-            io::write_all(1, b"token");
-            put_field(kind as u64);
-            put_field(count as u64);
-        }
-        Step::Error(code, argument) => {
-            io::write_all(1, b"error");
-            put_field(code as u64);
-            put_field(argument as u64);
-        }
+        Step::Token(kind, count) => put(b"token % %\n", &[kind as u64, count as u64]),
+        Step::Error(code, argument) => put(b"error % %\n", &[code as u64, argument as u64]),
     }
-    io::write_all(1, b"\n");
 }
 
 // How many steps a file has from its front on; each is shown where that is asked for.
@@ -57,17 +45,12 @@ fn walk(file: &[u8], shown: bool) -> u64 {
 
 // The steps of a file: how many, and each.
 pub fn put_steps(file: &[u8]) {
-    io::write_all(1, b"steps");
-    put_field(walk(file, false));
-    io::write_all(1, b"\n");
+    put(b"steps %\n", &[walk(file, false)]);
     walk(file, true);
 }
 
 pub fn put_refused(number: u32, place: usize) {
-    io::write_all(1, b"refused");
-    put_field(number as u64);
-    put_field(place as u64);
-    io::write_all(1, b"\n");
+    put(b"refused % %\n", &[number as u64, place as u64]);
 }
 
 // The steps of a good file; of another one nothing but why it is refused, and where.

@@ -16,6 +16,17 @@ pub struct Number {
     pub ok: bool,
 }
 
+impl Number {
+    // Whether it is the last of a line.
+    pub fn ends(self, line: &[u8]) -> bool {
+        if self.ok {
+            self.next == line.len()
+        } else {
+            false
+        }
+    }
+}
+
 // What a byte is worth as a digit of the bases up to 16, 16 for none.
 fn digit(b: u8) -> u64
     ensures { λ r. ⌜ r ≤ 16 ⌝ }

@@ -1,10 +1,12 @@
 // Tokens from text.
 use crate::table::kind_named;
-use crate::table::same;
 use text::line_end;
 use text::number::MOST16;
 use text::number::digits;
 use text::past;
+use text::put;
+use text::table::find;
+use text::table::put_entry;
 ghost use Prim.Native.Nat.{_+_, _≤_, _<_};
 ghost use lib.ListN.{length};
 
@@ -124,11 +126,10 @@ fn after_byte(b: u8, n: u64) -> u64
     if b == b'\n' { n + 1 } else { n }
 }
 
-// Says that a word has no meaning where it stands.
-fn say_bad(text: &[u8], from: usize, word: &[u8], what: &[u8]) {
-    io::write_all(1, b"line ");
-    io::print_decimal(1, line_of(text, from));
-    io::write_all(1, what);
+// Says that a word has no meaning where it stands: it is no kind (0), or no directive (1).
+fn say_bad(text: &[u8], from: usize, word: &[u8], what: u64) {
+    put(b"line %", &[line_of(text, from)]);
+    put_entry(b": no kind: \n: no directive here: \n", what);
     io::write_all(1, word);
     io::write_all(1, b"\n");
 }
@@ -136,10 +137,8 @@ fn say_bad(text: &[u8], from: usize, word: &[u8], what: &[u8]) {
 // The kind that a word names, above 65,535 for none.
 fn kind_of(word: &[u8]) -> u64 {
     let d = digits(word, 0, 10, MOST16);
-    if d.ok {
-        if d.next == word.len() {
-            return d.value;
-        }
+    if d.ends(word) {
+        return d.value;
     }
     kind_named(word)
 }
@@ -173,34 +172,27 @@ enum Word {
     Token { kind: u16, joint: bool },
     Entry(Entry),
     Mode(u32),
-    NoKind,
-    NoDirective,
+    Bad(u64),
 }
 
 fn directive_of(word: &[u8]) -> Word {
-    if same(word, b"!source") {
-        return Word::Entry(Entry::Source);
+    let f = find(b"!source\n!item\n!expr\n!mode0\n!mode1\n", word, true);
+    let number = f.number;
+    match number {
+        0 => Word::Entry(Entry::Source),
+        1 => Word::Entry(Entry::Item),
+        2 => Word::Entry(Entry::Expr),
+        3 => Word::Mode(0),
+        4 => Word::Mode(1),
+        _ => Word::Bad(1),
     }
-    if same(word, b"!item") {
-        return Word::Entry(Entry::Item);
-    }
-    if same(word, b"!expr") {
-        return Word::Entry(Entry::Expr);
-    }
-    if same(word, b"!mode0") {
-        return Word::Mode(0);
-    }
-    if same(word, b"!mode1") {
-        return Word::Mode(1);
-    }
-    Word::NoDirective
 }
 
 fn token_of(word: &[u8]) -> Word {
     let n = bare(word);
     let k = kind_of(&word[0..n]);
     if k > 65535 {
-        return Word::NoKind;
+        return Word::Bad(0);
     }
     Word::Token {
         kind: k as u16,
@@ -213,7 +205,7 @@ fn word_of(word: &[u8], tokens: usize) -> Word {
     if word.len() > 0 {
         if word[0] == b'!' {
             if tokens > 0 {
-                return Word::NoDirective;
+                return Word::Bad(1);
             }
             return directive_of(word);
         }
@@ -245,12 +237,8 @@ fn take(
         Word::Token { kind, joint } => hold(a, kind, joint, kinds, joints),
         Word::Entry(e) => a.with_entry(e),
         Word::Mode(m) => a.with_mode(m),
-        Word::NoKind => {
-            say_bad(text, from, word, b": no kind: ");
-            a.with_bad()
-        }
-        Word::NoDirective => {
-            say_bad(text, from, word, b": no directive here: ");
+        Word::Bad(what) => {
+            say_bad(text, from, word, what);
             a.with_bad()
         }
     }

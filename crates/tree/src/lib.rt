@@ -1,11 +1,13 @@
-// The tree of a step file on standard output: a line for each node, token and error, two spaces deeper for each node that is open
+// The tree of a step file on standard output, a line for each node, token and error, and the last line, which says how a parse ended
 // (docs/RULES.md, section 10).
 use records::Step;
 use records::size;
 use stepfile::Found;
 use stepfile::step_at;
+use text::put;
 use tokens::table::put_kind;
 use tokens::table::put_message;
+use tokens::table::put_number;
 ghost use Prim.Native.Nat.{_+_, _*_, _≤_};
 ghost use lib.ListN.{length};
 
@@ -29,26 +31,14 @@ fn put_indent(depth: u64) {
     }
 }
 
-// The number of a token, counted from 0.
-pub fn put_place(place: u64) {
-    io::write_all(1, b" at ");
-    io::print_decimal(1, place);
-}
-
-// How many tokens a token is glued of, where that is not one.
-fn put_glued(raw: u64) {
-    if raw == 1 {
-        return;
-    }
-    io::write_all(1, b" (");
-    io::print_decimal(1, raw);
-    io::write_all(1, b" tokens)");
-}
-
+// A token, with the number of tokens that it is glued of, and its place, counted from 0.
 fn put_token(kind: u64, raw: u64, place: u64) {
     put_kind(kind);
-    put_glued(raw);
-    put_place(place);
+    if raw == 1 {
+        put(b" at %\n", &[place]);
+    } else {
+        put(b" (% tokens) at %\n", &[raw, place]);
+    }
 }
 
 // A message; that of code 1 names the kind that is its argument.
@@ -65,46 +55,54 @@ fn found(kinds: &[u16], place: u64) -> u16 {
     lookahead::found_at(kinds, place as usize)
 }
 
-// What stands at a place.
-pub fn put_found(kinds: &[u16], place: u64) {
+fn put_end() {
+    io::write_all(1, b"\n");
+}
+
+// What stands at a place, at the end of a line.
+fn put_found(kinds: &[u16], place: u64) {
     io::write_all(1, b", found ");
     put_kind(found(kinds, place) as u64);
+    put_end();
 }
 
 // An error, with the tokens passed before it and the kind that stands there.
 fn put_error(kinds: &[u16], code: u64, argument: u64, place: u64) {
-    io::write_all(1, b"error ");
-    io::print_decimal(1, code);
-    put_place(place);
-    io::write_all(1, b": ");
+    put(b"error % at %: ", &[code, place]);
     put_said(code, argument);
     put_found(kinds, place);
 }
 
-// The line of a step; a leave has none.
-fn put_step(kinds: &[u16], s: Step, w: Walk) {
+fn put_node(kind: u64) {
+    put_kind(kind);
+    put_end();
+}
+
+// What stands in the line of a step; a leave has none.
+fn put_what(kinds: &[u16], s: Step, place: u64) {
     match s {
-        Step::Enter(kind) => {
-            put_indent(w.depth);
-            put_kind(kind as u64);
-            put_end();
-        }
+        Step::Enter(kind) => put_node(kind as u64),
         Step::Leave => {}
-        Step::Token(kind, count) => {
-            put_indent(w.depth);
-            put_token(kind as u64, count as u64, w.place);
-            put_end();
-        }
-        Step::Error(code, argument) => {
-            put_indent(w.depth);
-            put_error(kinds, code as u64, argument as u64, w.place);
-            put_end();
-        }
+        Step::Token(kind, count) => put_token(kind as u64, count as u64, place),
+        Step::Error(code, argument) => put_error(kinds, code as u64, argument as u64, place),
     }
 }
 
-fn put_end() {
-    io::write_all(1, b"\n");
+fn is_leave(s: Step) -> bool {
+    match s {
+        Step::Enter(_) => false,
+        Step::Leave => true,
+        Step::Token(_, _) => false,
+        Step::Error(_, _) => false,
+    }
+}
+
+// The line of a step.
+fn put_step(kinds: &[u16], s: Step, w: Walk) {
+    if !is_leave(s) {
+        put_indent(w.depth);
+        put_what(kinds, s, w.place);
+    }
 }
 
 // The walk past a step.
@@ -160,4 +158,35 @@ pub fn put_tree(kinds: &[u16], file: &[u8]) -> u64
             }
         }
     }
+}
+
+// What stands at the place of a refusal, where that is a token's.
+fn put_here(number: u32, place: u64, kinds: &[u16]) {
+    if number >= 4 {
+        if number <= 8 {
+            put_found(kinds, place);
+            return;
+        }
+    }
+    io::write_all(1, b"\n");
+}
+
+// The last line of a parse that is refused, and of one that is done.
+pub fn put_refused(number: u32, place: u64, kinds: &[u16]) {
+    put(b"refused % at %: ", &[number as u64, place]);
+    put_number(number as u64);
+    put_here(number, place, kinds);
+}
+
+pub fn put_done(place: u32, tokens: usize, events: u32, lookups: u32, errors: u64) {
+    put(
+        b"done: % of % tokens, % events, % lookups, % errors\n",
+        &[
+            place as u64,
+            tokens as u64,
+            events as u64,
+            lookups as u64,
+            errors,
+        ],
+    );
 }

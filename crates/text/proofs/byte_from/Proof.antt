@@ -1,16 +1,16 @@
--- `text::line_end` is safe, ends, and answers a place from the given one on.
+-- `text::byte_from` is safe, ends, and answers a place from the given one on.
 -- Assumes nothing.
 use native.Mathlib.Omega.{arith}
 use Prim.Native.Nat.{_≤_, _-_}
 use lib.ListN.{length}
-use Rattle.text.proofs.line_end.Statement.{statement}
-use Rattle.text.proofs.line_end.Tie as tie
+use Rattle.text.proofs.byte_from.Statement.{statement}
+use Rattle.text.proofs.byte_from.Tie as tie
 
 abbrev Inv-loop : tie.InvT-loop
-Inv-loop text at i₀ i = (at ≤ i) × (i ≤ length text)
+Inv-loop text at b i₀ i = (at ≤ i) × (i ≤ length text)
 
 abbrev μ-loop : tie.MeasureT-loop
-μ-loop text at i₀ i = length text - i
+μ-loop text at b i₀ i = length text - i
 
 loop-holds : tie.Need-loop-holds Inv-loop μ-loop
 loop-holds c = omega arith
@@ -33,8 +33,8 @@ loop-again c = omega arith
 returns-2 : tie.Need-returns-2 Inv-loop μ-loop
 returns-2 c = omega arith
 
-pub line-end-spec : {M : Type 1} → statement M
-line-end-spec =
+pub byte-from-spec : {M : Type 1} → statement M
+byte-from-spec =
     tie.close
     (tie.spec
     Inv-loop

@@ -1,10 +1,10 @@
--- `tokens::table::entry_at` is safe and ends. Assumes nothing.
+-- `text::table::entry_at` is safe and ends. Assumes nothing.
 use native.Mathlib.Omega.{arith}
 use borrow.Author.Needs.{needs}
 use Prim.Native.Nat.{_≤_}
 use lib.ListN.{length}
-use Rattle.tokens.proofs.table.entry_at.Statement.{statement}
-use Rattle.tokens.proofs.table.entry_at.Tie as tie
+use Rattle.text.proofs.table.entry_at.Statement.{statement}
+use Rattle.text.proofs.table.entry_at.Tie as tie
 
 abbrev Inv-loop : tie.InvT-loop
 Inv-loop table n at₀ left₀ at left = at ≤ length table
