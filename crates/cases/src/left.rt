@@ -101,15 +101,21 @@ fn rest_state(code: u32, rest: &[u32]) -> u64 {
     either(same, SAME, zero, ZERO)
 }
 
-// Writes how a parse left its room, whose first words are the events.
+// How much of a room a call has filled: a refused one nothing.
+fn filled(code: u32, n: usize) -> usize {
+    if code == 0 { n } else { 0 }
+}
+
+// Writes how a parse left its room, whose first words are the events where it is done.
 pub fn put_parsed(code: u32, words: usize, room: &[u32]) {
-    if words > room.len() {
+    let n = filled(code, words);
+    if n > room.len() {
         io::write_all(1, b" other -");
         return;
     }
-    put_state(rest_state(code, &room[words..]));
+    put_state(rest_state(code, &room[n..]));
     io::write_all(1, b" ");
-    put_words(&room[0..words]);
+    put_words(&room[0..n]);
 }
 
 // How a resolution left the list, which was `kept`, and the bytes behind the file.
@@ -125,13 +131,14 @@ fn list_state(code: u32, words: &[u32], kept: &[u32], rest: &[u8]) -> u64 {
     either(same, SAME, bare, BARE)
 }
 
-// Writes how a resolution left its room, whose first bytes are the file, and the list.
+// Writes how a resolution left its room, whose first bytes are the file where it is done, and the list.
 pub fn put_resolved(code: u32, bytes: usize, room: &[u8], words: &[u32], kept: &[u32]) {
-    if bytes > room.len() {
+    let n = filled(code, bytes);
+    if n > room.len() {
         io::write_all(1, b" - other");
         return;
     }
     io::write_all(1, b" ");
-    put_bytes(&room[0..bytes]);
-    put_state(list_state(code, words, kept, &room[bytes..]));
+    put_bytes(&room[0..n]);
+    put_state(list_state(code, words, kept, &room[n..]));
 }

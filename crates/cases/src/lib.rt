@@ -65,20 +65,16 @@ pub struct Resolve {
     pub ok: bool,
 }
 
+fn both(a: bool, b: bool) -> bool {
+    if a { b } else { false }
+}
+
 // A parse as its numbers say, unless one of them is missing.
 fn lent(mode: Number, size: Number, k: Numbers, j: Numbers, line: &[u8]) -> Parse
     requires { ⌜ (mode .value ≤ 4294967295) × (size .value ≤ 4294967295) ⌝ }
     ensures { λ r. ⌜ (r .room ≤ 131080) × (r .kinds ≤ k .count) × (r .joints ≤ j .count) ⌝ }
 {
-    let ok = if mode.ok {
-        if size.ok {
-            if k.ok { j.ends(line) } else { false }
-        } else {
-            false
-        }
-    } else {
-        false
-    };
+    let ok = both(both(mode.ok, size.ok), both(k.ok, j.ends(line)));
     if size.value > WORDS as u64 {
         return Parse {
             mode: 0,
@@ -116,7 +112,7 @@ pub fn read_resolve(line: &[u8], from: usize, words: &mut [u32]) -> Resolve
 {
     let size = field(line, from);
     let l = words_at(line, size.next, words);
-    let ok = if size.ok { l.ends(line) } else { false };
+    let ok = both(size.ok, l.ends(line));
     if size.value > BYTES as u64 {
         return Resolve {
             room: 0,

@@ -1,5 +1,6 @@
 // Replays cases from standard input, a line each, and writes a line for each (docs/RULES.md, section 11).
 use cases::BYTES;
+use cases::Parse;
 use cases::WORDS;
 use cases::head;
 use cases::left::BYTE;
@@ -46,17 +47,9 @@ fn joints_room() -> [u64; 256]
     [0; 256]
 }
 
-// The words of the events that an answer has.
-fn event_words(a: parse::Answer) -> usize {
-    if a.code == 0 {
-        return EVENT_WORDS * a.events as usize;
-    }
-    0
-}
-
 fn put_parse(a: parse::Answer, room: &[u32]) {
     put_counts(a.code, a.place, a.events, a.lookups);
-    put_parsed(a.code, event_words(a), room);
+    put_parsed(a.code, EVENT_WORDS * a.events as usize, room);
 }
 
 // Parses, and writes the answer.
@@ -65,11 +58,21 @@ fn parse_in(entry: Entry, mode: u32, kinds: &[u16], joints: &[u64], room: &mut [
     put_parse(a, room);
 }
 
-fn run_parse(entry: Entry, mode: u32, kinds: &[u16], joints: &[u64], size: usize)
-    requires { ⌜ size ≤ 131080 ⌝ }
+// Parses what a case has lent.
+fn run_parse(entry: Entry, c: Parse, kinds: &[u16], joints: &[u64])
+    requires { ⌜ (c .room ≤ 131080) × (c .kinds ≤ length (now kinds)) × (c .joints ≤ length (now joints)) ⌝ }
 {
+    let n = c.kinds;
+    let m = c.joints;
+    let size = c.room;
     let mut room = words_room(WORD);
-    parse_in(entry, mode, kinds, joints, &mut room[0..size]);
+    parse_in(
+        entry,
+        c.mode,
+        &kinds[0..n],
+        &joints[0..m],
+        &mut room[0..size],
+    );
 }
 
 fn parse_case(line: &[u8], from: usize, entry: Entry)
@@ -78,10 +81,8 @@ fn parse_case(line: &[u8], from: usize, entry: Entry)
     let mut kinds = kinds_room();
     let mut joints = joints_room();
     let c = read_parse(line, from, &mut kinds, &mut joints);
-    let n = c.kinds;
-    let m = c.joints;
     if c.ok {
-        run_parse(entry, c.mode, &kinds[0..n], &joints[0..m], c.room);
+        run_parse(entry, c, &kinds, &joints);
     } else {
         put_bad();
     }
@@ -105,19 +106,13 @@ fn check_case(line: &[u8], from: usize)
     }
 }
 
-// The bytes of the file that an answer has.
-fn file_bytes(a: lists::Answer) -> usize {
-    if a.code() == 0 {
-        return a.place();
-    }
-    0
-}
-
 // Resolves a list, which was `kept`, and writes the answer.
 fn resolve_in(words: &mut [u32], kept: &[u32], room: &mut [u8]) {
     let a = events::resolve(words, room);
-    put_place(a.code(), a.place());
-    put_resolved(a.code(), file_bytes(a), room, words, kept);
+    let code = a.code();
+    let place = a.place();
+    put_place(code, place);
+    put_resolved(code, place, room, words, kept);
 }
 
 // Resolves a list in a room of so many bytes. What the list was is read off the line again.

@@ -23,7 +23,7 @@ pub fn put_message(code: u64) {
     put_entry(&table, code);
 }
 
-pub fn put_number(number: u64) {
+pub fn put_meaning(number: u64) {
     let table = numbers();
     put_entry(&table, number);
 }

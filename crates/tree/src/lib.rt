@@ -6,8 +6,8 @@ use stepfile::Found;
 use stepfile::step_at;
 use text::put;
 use tokens::table::put_kind;
+use tokens::table::put_meaning;
 use tokens::table::put_message;
-use tokens::table::put_number;
 ghost use Prim.Native.Nat.{_+_, _*_, _≤_};
 ghost use lib.ListN.{length};
 
@@ -174,7 +174,7 @@ fn put_here(number: u32, place: u64, kinds: &[u16]) {
 // The last line of a parse that is refused, and of one that is done.
 pub fn put_refused(number: u32, place: u64, kinds: &[u16]) {
     put(b"refused % at %: ", &[number as u64, place]);
-    put_number(number as u64);
+    put_meaning(number as u64);
     put_here(number, place, kinds);
 }
 
