@@ -23,7 +23,7 @@ use Rattle.records.specs.declared.Step.the-variants.{Enter as enter, Leave as l
 use Rattle.lists.specs.Answer as A
 use Rattle.records.specs.Record.{bytes}
 use Rattle.lists.specs.Check.{next, scan, checked}
-use Rattle.process.specs.Process.{follow, entered, turn, turns}
+use Rattle.turns.specs.Process.{follow, entered, turn, turns}
 use Rattle.events.specs.Resolve.{resolved}
 use Rattle.events.specs.Examples as lists
 use Rattle.parse.specs.declared.Entry.the-variants.{SourceFile, Item, Expression}

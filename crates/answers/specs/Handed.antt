@@ -4,7 +4,7 @@ use Prim.Native.Nat.{ℕ, _*_}
 use lib.ListN.{take}
 use Rattle.event.specs.Event.{eventWords, eventsOf}
 use Rattle.records.specs.declared.Step.{Step}
-use Rattle.process.specs.Process.{process, stepsOf}
+use Rattle.turns.specs.Process.{process, stepsOf}
 use Rattle.parse.specs.Parse.{Outcome}
 
 abbrev pub handed : Outcome → List ℕ

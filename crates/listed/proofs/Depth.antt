@@ -14,9 +14,9 @@ use Rattle.records.specs.declared.Step.{Step}
 use Rattle.lists.specs.Answer.{says}
 use Rattle.lists.specs.Check.{lands, next, onNext, scan}
 use Rattle.own.specs.Own.{enters}
-use Rattle.process.specs.Process.{Parent, placed, follow, entered, turn, turns, process, stepsOf}
+use Rattle.turns.specs.Process.{Parent, placed, follow, entered, turn, turns, process, stepsOf}
 use Rattle.listed.specs.Shape.{closes}
-use Rattle.process.proofs.Running.{length-turn}
+use Rattle.events.proofs.Running.{length-turn}
 use Rattle.events.proofs.Passing.{pass-start, lands-follow}
 
 -- how many nodes some parents open

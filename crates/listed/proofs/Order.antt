@@ -13,9 +13,9 @@ use Rattle.laws.proofs.Tests.{by-test}
 use Rattle.records.specs.declared.Step.{Step}
 use Rattle.records.specs.declared.Step.the-variants.{Enter as enter}
 use Rattle.own.specs.Own.{enters}
-use Rattle.process.specs.Process.{Placed, placed, Parent, follow, entered, turn, turns, process}
+use Rattle.turns.specs.Process.{Placed, placed, Parent, follow, entered, turn, turns, process}
 use Rattle.listed.specs.Shape.{isEnter, others, plain}
-use Rattle.process.proofs.Running.{length-turn}
+use Rattle.events.proofs.Running.{length-turn}
 
 others-append : (r s : List Placed) → others (r ++ s) ≡ others r ++ others s
 unfolding others

@@ -14,9 +14,9 @@ use Rattle.event.specs.declared.Event.the-variants.{Start, Finish, Token, Error
 use Rattle.records.specs.declared.Step.{Step}
 use Rattle.records.specs.declared.Step.the-variants.{Enter as enter, Leave as leave, Token as token, Error as error}
 use Rattle.own.specs.Own.{enters, own}
-use Rattle.process.specs.Process.{Placed, placed, Parent, follow, entered, turn, turns, process, stepsOf}
+use Rattle.turns.specs.Process.{Placed, placed, Parent, follow, entered, turn, turns, process, stepsOf}
 use Rattle.listed.specs.Shape.{from, entersTombstone}
-use Rattle.process.proofs.Running.{length-turn}
+use Rattle.events.proofs.Running.{length-turn}
 
 -- the steps from a place: of steps that come from one place, and of several
 from-append : (i : ℕ) (r s : List Placed) → from i (r ++ s) ≡ from i r ++ from i s

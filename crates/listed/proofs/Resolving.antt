@@ -14,7 +14,7 @@ use Rattle.records.specs.Record.{bytes, over}
 use Rattle.lists.specs.Answer.{Numbers, says}
 use Rattle.lists.specs.Check.{checked}
 use Rattle.own.specs.Own.{need}
-use Rattle.process.specs.Process.{process, file}
+use Rattle.turns.specs.Process.{process, file}
 use Rattle.events.specs.Resolve.{Outcome, ends, resolved}
 use Rattle.events.proofs.Outcomes as O
 use Rattle.events.proofs.Passing.{process-need}

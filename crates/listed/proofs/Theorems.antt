@@ -19,11 +19,11 @@ use Rattle.records.specs.Record.{over}
 use Rattle.lists.specs.Answer.{Numbers, says, numbers}
 use Rattle.lists.specs.Check.{checked}
 use Rattle.own.specs.Own.{need}
-use Rattle.process.specs.Process.{process, file, stepsOf}
+use Rattle.turns.specs.Process.{process, file, stepsOf}
 use Rattle.events.specs.Resolve.{ends, panics, settled, resolved}
 use Rattle.listed.specs.Shape.{closes, from}
 use Rattle.own.proofs.Writes.{own-kind, own-none}
-use Rattle.process.proofs.Running.{turns-left}
+use Rattle.events.proofs.Running.{turns-left}
 use Rattle.events.proofs.Passing.{passed-scan, passed-sound}
 use Rattle.events.proofs.Outcomes.{resolves}
 use Rattle.listed.proofs.Depth.{scan-closes}

@@ -10,7 +10,7 @@ use Rattle.event.specs.declared.Event.the-variants.{Start, Finish, Token, Error
 use Rattle.event.specs.Event.{eventWords, mostEvents, eventsOf, wordsOf, tombstone, isToken}
 use Rattle.records.specs.Record.{over}
 use Rattle.lists.specs.Answer.{Numbers, says}
-use Rattle.process.specs.Process.{process, file}
+use Rattle.turns.specs.Process.{process, file}
 use Rattle.events.specs.Resolve.{Outcome, ends}
 use Rattle.listed.specs.WellFormed.{isNode, isFinish, count, Fault}
 

@@ -8,7 +8,7 @@ use Rattle.event.specs.Event.{isStart}
 use Rattle.records.specs.declared.Step.{Step}
 use Rattle.records.specs.declared.Step.the-variants.{Enter as enter, Leave as leave, Token as token, Error as error}
 use Rattle.own.specs.Own.{own}
-use Rattle.process.specs.Process.{Placed, placed}
+use Rattle.turns.specs.Process.{Placed, placed}
 
 -- with o nodes open, the steps leave no node that is not open, and leave all of them
 unfoldable pub closes : ℕ → List Step → Bool

@@ -10,7 +10,7 @@ use Rattle.event.specs.declared.Event.the-variants.{Start, Finish, Token, Error
 use Rattle.runtime.specs.Cover.{Covers}
 use Rattle.records.specs.declared.Step.{Step}
 use Rattle.records.specs.declared.Step.the-variants.{Enter as enter, Leave as leave, Token as taken, Error as failed}
-use Rattle.process.specs.Process.{Placed, process, stepsOf}
+use Rattle.turns.specs.Process.{Placed, process, stepsOf}
 use Rattle.listed.specs.Shape.{isEnter, others, plain}
 use Rattle.listed.proofs.Order.{in-order}
 use Rattle.promises.specs.Promised.{SaysAt, rawOf, CoverSteps, rawSum}

@@ -26,7 +26,7 @@ use Rattle.stepfile.specs.File.{fileRead}
 use Rattle.lists.specs.Answer.{Numbers, says}
 use Rattle.lists.specs.Check.{checked}
 use Rattle.own.specs.Own.{need}
-use Rattle.process.specs.Process.{process, stepsOf, file}
+use Rattle.turns.specs.Process.{process, stepsOf, file}
 use Rattle.events.specs.Resolve.{ends, resolved}
 use Rattle.listed.specs.Shape.{closes, from, others, plain}
 use Rattle.listed.specs.WellFormed.{WellFormed}

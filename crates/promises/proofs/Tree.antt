@@ -13,9 +13,9 @@ use Rattle.event.specs.Event.{distance}
 use Rattle.records.specs.declared.Step.{Step}
 use Rattle.records.specs.declared.Step.the-variants.{Enter as enter, Leave as leave, Token as taken, Error as failed}
 use Rattle.lists.specs.Check.{lands, scan}
-use Rattle.process.specs.Process.{Parent, follow, entered, turn, turns, stepsOf}
+use Rattle.turns.specs.Process.{Parent, follow, entered, turn, turns, stepsOf}
 use Rattle.listed.specs.Shape.{closes}
-use Rattle.process.proofs.Running.{length-turn}
+use Rattle.events.proofs.Running.{length-turn}
 use Rattle.events.proofs.Passing.{lands-follow}
 use Rattle.listed.proofs.Depth.{closes-turns}
 use Rattle.stepfile.specs.Nesting.{nest, nests}

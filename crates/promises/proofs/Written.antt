@@ -18,7 +18,7 @@ use Rattle.event.specs.Event.{decode, eventsOf, wordsOf, tombstone}
 use Rattle.lists.specs.Answer.{says}
 use Rattle.lists.specs.Check.{checked}
 use Rattle.own.specs.Own.{enters, own, need}
-use Rattle.process.specs.Process.{Parent, placed, follow, entered, turn, turns, process, stepsOf}
+use Rattle.turns.specs.Process.{Parent, placed, follow, entered, turn, turns, process, stepsOf}
 use Rattle.events.specs.Resolve.{ends, resolved}
 use Rattle.events.proofs.Passing.{process-need}
 use Rattle.listed.proofs.Theorems.{passing-resolves}

@@ -1,4 +1,4 @@
--- `process::chain_size` meets its contract. The invariant is `Sizing`, which a hop keeps.
+-- `turns::chain_size` meets its contract. The invariant is `Sizing`, which a hop keeps.
 -- Assumes nothing.
 use Prim.Native.Nat.{_<_, _+_, _-_, _/_}
 use native.Mathlib.Omega.{arith}
@@ -9,9 +9,9 @@ use Rattle.event.specs.Event.{eventsOf, distance}
 use Rattle.event.proofs.Rooms.{length-events}
 use Rattle.own.specs.Own.{cost}
 use Rattle.own.proofs.Writes.{cost-le}
-use Rattle.process.proofs.Following.{Sizing, hops-on, size-on, size-done}
-use Rattle.process.proofs.chain_size.Statement.{statement}
-use Rattle.process.proofs.chain_size.Tie as tie
+use Rattle.turns.proofs.Following.{Sizing, hops-on, size-on, size-done}
+use Rattle.turns.proofs.chain_size.Statement.{statement}
+use Rattle.turns.proofs.chain_size.Tie as tie
 
 abbrev Inv-loop : tie.InvT-loop
 Inv-loop words i d p₀ q₀ size₀ p q size = Sizing (eventsOf words) i d p q size

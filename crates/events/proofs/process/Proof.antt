@@ -1,4 +1,4 @@
--- `process::process` meets its contract. The invariant is `Running`, which a turn keeps.
+-- `events::process` meets its contract. The invariant is `Running`, which a turn keeps.
 -- Assumes nothing.
 use Prim.Native.Nat.{_-_}
 use native.Mathlib.Omega.{arith}
@@ -7,9 +7,9 @@ use mathlib.Core.Path.{_≡_, refl, _∙_}
 use lib.ListN.{length}
 use Rattle.event.specs.Event.{eventsOf}
 use Rattle.event.proofs.Rooms.{length-events}
-use Rattle.process.proofs.Running.{Running, begin, here-sound, here-room, onward, done, words-left}
-use Rattle.process.proofs.process.Statement.{statement}
-use Rattle.process.proofs.process.Tie as tie
+use Rattle.events.proofs.Running.{Running, begin, here-sound, here-room, onward, done, words-left}
+use Rattle.events.proofs.process.Statement.{statement}
+use Rattle.events.proofs.process.Tie as tie
 
 abbrev Inv-loop : tie.InvT-loop
 Inv-loop words₀ out₀ size n i₀ at₀ words out i at = (length words ≡ length words₀) × Running (eventsOf words₀) out₀ n size (eventsOf words) out i at

@@ -1,4 +1,4 @@
-// `process` of event.rs: the turns that resolve a list of events into steps, for a list that passes the check and a room that holds its file.
+// A turn of the loop in `process` of event.rs: the chain that an event's distance leads to, and the event's own step.
 use event::ERROR;
 use event::EVENT_WORDS;
 use event::Event;
@@ -13,12 +13,12 @@ use own::put_wide;
 ghost use mathlib.Core.Path.{_≡_};
 ghost use mathlib.Core.Bool.{false};
 ghost use mathlib.Core.List.{_∷_, _++_};
-ghost use Prim.Native.Nat.{suc, _+_, _*_, _/_, _<_, _≤_};
+ghost use Prim.Native.Nat.{suc, _+_, _/_, _<_, _≤_};
 ghost use lib.ListN.{length, getD, take};
-ghost use Rattle.event.specs.Event.{eventWords, decode, eventsOf, wordsOf, none, distance, tombstone};
-ghost use Rattle.records.specs.Record.{over, Wrote};
+ghost use Rattle.event.specs.Event.{eventWords, eventsOf, none, distance, tombstone};
+ghost use Rattle.records.specs.Record.{over};
 ghost use Rattle.own.specs.Inside.{Laid};
-ghost use Rattle.process.specs.Process.{chain, entered, turnAt, process, file};
+ghost use Rattle.turns.specs.Process.{chain, entered, turnAt, file};
 
 // The bytes of the enters that distance d from event i leads to.
 fn chain_size(words: &[u32], i: usize, d: u32) -> usize
@@ -88,7 +88,7 @@ fn turn_led(words: &mut [u32], out: &mut [u8], size: usize, i: usize, at: usize)
 }
 
 // The turn at event i: its steps at a place, and the place past them. The file ends at `size`, and nothing past it is written.
-fn turn(words: &mut [u32], out: &mut [u8], size: usize, i: usize, at: usize) -> usize
+pub fn turn(words: &mut [u32], out: &mut [u8], size: usize, i: usize, at: usize) -> usize
     requires { ⌜ i < length (now words) / eventWords ⌝ }
     requires { ⌜ turnAt (eventsOf (now words)) i .panics ≡ false ⌝ }
     requires { ⌜ at + length (file (turnAt (eventsOf (now words)) i .steps)) ≤ size ⌝ }
@@ -108,23 +108,4 @@ fn turn(words: &mut [u32], out: &mut [u8], size: usize, i: usize, at: usize) -> 
         }
     }
     put_own(out, at, decode(a, b))
-}
-
-// Resolves a list that passes the check into a room that holds its step file, of `size` bytes; the bytes of the file.
-pub fn process(words: &mut [u32], out: &mut [u8], size: usize) -> usize
-    requires { ⌜ length (now words) ≡ eventWords * (length (now words) / eventWords) ⌝ }
-    requires { ⌜ process (eventsOf (now words)) .panics ≡ false ⌝ }
-    requires { ⌜ size ≡ length (file (process (eventsOf (now words)) .steps)) ⌝ }
-    requires { ⌜ size ≤ length (now out) ⌝ }
-    ensures { λ r. ⌜ Wrote (now (out .entry)) 0 (file (process (eventsOf (now (words .entry))) .steps)) r (now (out .exit)) ⌝ }
-    ensures { λ r. ⌜ now (words .exit) ≡ wordsOf (process (eventsOf (now (words .entry))) .left) ⌝ }
-{
-    let n = words.len() / EVENT_WORDS;
-    let mut i = 0;
-    let mut at = 0;
-    while i < n {
-        at = turn(words, out, size, i, at);
-        i += 1;
-    }
-    at
 }

@@ -1,4 +1,4 @@
--- `process::turn_led` meets its contract: one start's step and then the event's own; or a chain's steps, and then its own.
+-- `turns::turn_led` meets its contract: one start's step and then the event's own; or a chain's steps, and then its own.
 -- Assumes nothing.
 use native.Mathlib.Omega.{arith}
 use Prim.Native.Nat.{ℕ, _+_, _*_, _/_, _≤_, _<_}
@@ -12,9 +12,9 @@ use Rattle.event.proofs.Encoding.{say-start, start-tag}
 use Rattle.own.specs.Own.{own, cost}
 use Rattle.own.proofs.Wide.{laid-wider}
 use Rattle.own.proofs.Says.{say-enter, enter-cost, led-start, leads-start, distance-le}
-use Rattle.process.proofs.Running.{Turning, chain-sound, turn-room, turn-wrote, turn-left, led, pair-laid, pair-left}
-use Rattle.process.proofs.turn_led.Statement.{statement}
-use Rattle.process.proofs.turn_led.Tie as tie
+use Rattle.turns.proofs.Turning.{Turning, chain-sound, turn-room, turn-wrote, turn-left, led, pair-laid, pair-left}
+use Rattle.turns.proofs.turn_led.Statement.{statement}
+use Rattle.turns.proofs.turn_led.Tie as tie
 
 -- the entry, the words of the event, and what is known where it is cleared
 abbrev entry : tie.After-clear → tie.Start

@@ -1,4 +1,4 @@
--- `process::turn` meets its contract: with no distance, the event's own step alone.
+-- `turns::turn` meets its contract: with no distance, the event's own step alone.
 -- Assumes nothing.
 use native.Mathlib.Omega.{arith}
 use Prim.Native.Nat.{ℕ, _+_, _*_}
@@ -12,9 +12,9 @@ use Rattle.own.specs.Own.{cost}
 use Rattle.own.specs.Inside.{Say}
 use Rattle.own.proofs.Wide.{laid-wider}
 use Rattle.own.proofs.Says.{say-range}
-use Rattle.process.proofs.Running.{Turning, turn-says, alone-room, alone-laid, alone-wrote, alone-left}
-use Rattle.process.proofs.turn.Statement.{statement}
-use Rattle.process.proofs.turn.Tie as tie
+use Rattle.turns.proofs.Turning.{Turning, turn-says, alone-room, alone-laid, alone-wrote, alone-left}
+use Rattle.turns.proofs.turn.Statement.{statement}
+use Rattle.turns.proofs.turn.Tie as tie
 
 -- the event's words
 abbrev first : tie.Start → ℕ

@@ -13,7 +13,7 @@ use Rattle.event.specs.Event.{tombstone, isStart, distance}
 use Rattle.records.specs.declared.Step.{Step}
 use Rattle.records.specs.Record.{stepBytes, bytes, over, Wrote}
 use Rattle.own.specs.Own.{enters, own, cost}
-use Rattle.process.specs.Process.{Placed, placed, Followed, follow, entered, chain, stepsOf, file}
+use Rattle.turns.specs.Process.{Placed, placed, Followed, follow, entered, chain, stepsOf, file}
 use Rattle.records.proofs.Writes.{bytes-append, over-none, over-back, length-over}
 use Rattle.own.proofs.Writes.{cost-le}
 

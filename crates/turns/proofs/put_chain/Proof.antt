@@ -1,4 +1,4 @@
--- `process::put_chain` meets its contract. The invariant is `Writing`, which a hop keeps.
+-- `turns::put_chain` meets its contract. The invariant is `Writing`, which a hop keeps.
 -- Assumes nothing.
 use Prim.Native.Nat.{_≤_, _<_, _+_, _-_, _/_}
 use native.Mathlib.Omega.{arith}
@@ -9,9 +9,9 @@ use Rattle.event.specs.declared.Event.the-variants.{NoEvent}
 use Rattle.event.specs.Event.{eventsOf, distance}
 use Rattle.event.proofs.Rooms.{length-events}
 use Rattle.own.specs.Own.{cost}
-use Rattle.process.proofs.Following.{Writing, begin, next, next-room, onward, done}
-use Rattle.process.proofs.put_chain.Statement.{statement}
-use Rattle.process.proofs.put_chain.Tie as tie
+use Rattle.turns.proofs.Following.{Writing, begin, next, next-room, onward, done}
+use Rattle.turns.proofs.put_chain.Statement.{statement}
+use Rattle.turns.proofs.put_chain.Tie as tie
 
 abbrev Inv-loop : tie.InvT-loop
 Inv-loop words₀ out₀ i d at size p₀ q₀ end₀ words out p q end = (length words ≡ length words₀) × Writing (eventsOf words₀) out₀ i d at (eventsOf words) out p q end
