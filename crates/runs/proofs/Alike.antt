@@ -19,7 +19,7 @@ use Rattle.runtime.specs.declared.parser.Parser.{Parser}
 use Rattle.runtime.specs.State.{St, mostLooks, live, refusal, holding, looked, halted, stopNumber, numbers, refuse, rewritten, popped, eventAt, pushEvent, enough, consume, consumed, doBump, named, linked, dropped, gap}
 use Rattle.runtime.specs.Cover.{events}
 use Rattle.runtime.specs.Acts.{Act, Act.looks, Act.peeks, Act.eats, Act.takes, Act.starts, Act.completes, Act.abandons, Act.precedes, Act.extends, Act.fails, Act.stops, Act.asks, Answer, kindAhead, nthSees, sees, stopped, step, Acts, Acts.done, Acts.act, run}
-use Rattle.laws.proofs.Tests.{by-test}
+use Rattle.laws.proofs.Tests.{by-test, apart}
 use Rattle.runtime.proofs.Kept.{found}
 use Rattle.runs.proofs.Covered.{events-added, events-popped}
 
@@ -31,8 +31,8 @@ pub record Alike (s t : St) : Type 0 where
 -- a choice by tests that tell the same
 choose : {s t x y : St} (a b : Bool) → a ≡ b → (a ≡ true → Alike s x) → (a ≡ false → Alike t y) → Alike (cond a s t) (cond b x y)
 choose true true q f g = f refl
-choose true false q f g = absurd (let z : _≡_ {A = ℕ} 0 1 = cc in omega arith)
-choose false true q f g = absurd (let z : _≡_ {A = ℕ} 0 1 = cc in omega arith)
+choose true false q f g = apart (sym q)
+choose false true q f g = apart q
 choose false false q f g = g refl
 
 -- other numbers, with as many events
@@ -147,8 +147,8 @@ alike-step e (eats k) s t h = by (sees e (s .p) k) (sees e (t .p) k) (ap (λ (p 
   where
     by : (a b : Bool) → a ≡ b → Both (eats k) (cond a (true, doBump e k (rawCount (partsOf k)) s) (false, s)) (cond b (true, doBump e k (rawCount (partsOf k)) t) (false, t))
     by true true q = (refl, bump-alike e k k (rawCount (partsOf k)) s t refl h)
-    by true false q = absurd (let z : _≡_ {A = ℕ} 0 1 = cc in omega arith)
-    by false true q = absurd (let z : _≡_ {A = ℕ} 0 1 = cc in omega arith)
+    by true false q = apart (sym q)
+    by false true q = apart q
     by false false q = (refl, h)
 alike-step e takes s t h = (refl, bump-alike e (kindAhead e (s .p) 0) (kindAhead e (t .p) 0) 1 s t (ap (λ (p : Parser). kindAhead e p 0) (h .same)) h)
 alike-step e starts s t h = (length-same s t h, push-alike s t h (Start TOMBSTONE 0))
