@@ -337,9 +337,13 @@ fn caller() -> String {
     found
 }
 
-/// Runs `body` on a thread with a stack for the deepest nests that 8,192 tokens can make; `$ORACLE_STACK` gives it other bytes.
+/// Runs `body` on a thread with a stack for the deepest nests that 8,192 tokens can make; `$ORACLE_STACK` gives it other bytes, and with 0 it is
+/// run on this thread, which must have them: an emulator is three times as fast where there is one thread.
 pub fn with_stack<T: Send>(body: impl FnOnce() -> T + Send) -> T {
     let size = std::env::var("ORACLE_STACK").ok().and_then(|text| text.parse().ok()).unwrap_or(1 << 30);
+    if size == 0 {
+        return body();
+    }
     std::thread::scope(|scope| {
         let thread = std::thread::Builder::new().stack_size(size).spawn_scoped(scope, body).expect("a thread");
         thread.join().unwrap_or_else(|payload| std::panic::resume_unwind(payload))

@@ -57,8 +57,11 @@ pub fn threads() -> usize {
     asked.unwrap_or_else(|| std::thread::available_parallelism().map_or(1, |n| n.get())).max(1)
 }
 
-/// Runs `body` on each thread, with its number.
+/// Runs `body` on each thread, with its number; one is this thread.
 pub fn each_thread<T: Send>(threads: usize, body: impl Fn(usize) -> T + Sync) -> Vec<T> {
+    if threads == 1 {
+        return vec![body(0)];
+    }
     std::thread::scope(|scope| {
         let body = &body;
         let all: Vec<_> = (0..threads).map(|own| scope.spawn(move || with_stack(|| body(own)))).collect();
