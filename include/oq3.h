@@ -27,7 +27,7 @@
 #include <stdint.h>
 
 /* The version of the library: that of the crate oq3_parser whose parser it is, and a number that counts what this header has said. */
-#define OQ3_VERSION "0.7.0-1"
+#define OQ3_VERSION "0.7.0-2"
 
 #ifdef __cplusplus
 extern "C" {
@@ -63,8 +63,8 @@ enum {
     OQ3_NO_STEP_ROOM = 10,
     /* a record of a step file runs past the end; place: the first byte of that record */
     OQ3_CUT_RECORD = 11,
-    /* a record of a step file is unsound: an unknown kind, another length than its kind has, or a raw count outside 1 to 3; place: the
-     * first byte of that record */
+    /* a record of a step file is unsound: an unknown kind, another length than its kind has, a raw count outside 1 to 3, or another code
+     * than 1 in record kind 5; place: the first byte of that record */
     OQ3_BAD_RECORD = 12,
     /* the records of a step file do not nest, or there is none; place: the first byte of the first record that breaks the nesting, or
      * the file's length where that is seen at the end */
@@ -87,7 +87,7 @@ enum {
     OQ3_MOST_EVENTS = 65536,
     OQ3_EVENT_WORDS = 2,         /* words of one event */
     OQ3_MOST_ROOM = OQ3_EVENT_WORDS * OQ3_MOST_EVENTS, /* words of the largest event room */
-    OQ3_MOST_STEPS = 524288,     /* bytes of the longest step file: eight for each event */
+    OQ3_MOST_STEPS = 655360,     /* bytes of the longest step file: ten for each event */
     OQ3_STACK = 262144           /* bytes of stack that are enough for any call, on x86-64 */
 };
 
@@ -106,7 +106,7 @@ enum {
 #define OQ3_ROOM_WORDS(events) (OQ3_EVENT_WORDS * (size_t)(events))
 
 /* A step room of so many bytes is enough for every list of so many events. */
-#define OQ3_STEP_BYTES(events) (8 * (size_t)(events))
+#define OQ3_STEP_BYTES(events) (10 * (size_t)(events))
 
 /*
  * Parses tokens into a list of events.
@@ -179,14 +179,18 @@ uint32_t oq3_read_step(const uint8_t *file, size_t file_length,
 
 /*
  * A step file is one record after the other: payload length in 2 bytes, record kind in 2 bytes, payload; all little-endian. What is named
- * here is the payload; oq3_read_step has its numbers in answer[2] and answer[3].
+ * here is the payload; oq3_read_step has its numbers in answer[2] and answer[3], and the third one of record kind 5 in answer[4].
+ *
+ * "Expected KIND" (code 1, OQ3_MESSAGE_EXPECTED) is written as record kind 5, every other error as record kind 4. A file that is older than
+ * record kind 5 has code 1 in record kind 4: it is as good as it was.
  */
 enum {
     OQ3_STEP_END = 0,     /* no record: what oq3_read_step says at the end */
     OQ3_STEP_ENTER = 1,   /* kind, 2 bytes */
     OQ3_STEP_LEAVE = 2,   /* no payload */
     OQ3_STEP_TOKEN = 3,   /* kind, 2 bytes; raw count, 1 byte: how many tokens it is glued of, 1, 2 or 3 */
-    OQ3_STEP_ERROR = 4    /* code, 2 bytes; argument, 2 bytes: a kind or 0 */
+    OQ3_STEP_ERROR = 4,   /* code, 2 bytes; argument, 2 bytes: a kind or 0 */
+    OQ3_STEP_EXPECTED = 5 /* code, 2 bytes, always 1; expected kind, 2 bytes; found kind, 2 bytes: OQ3_KIND_EOF past the last token */
 };
 
 /*
@@ -196,7 +200,7 @@ enum {
     OQ3_EVENT_START = 65536,    /* + kind; the distance to its parent's start in events, 0 for none */
     OQ3_EVENT_FINISH = 131072,  /* 0 */
     OQ3_EVENT_TOKEN = 196608,   /* + kind; raw count */
-    OQ3_EVENT_ERROR = 262144    /* + code; argument */
+    OQ3_EVENT_ERROR = 262144    /* + code; argument, and with code 1 the expected kind and 65,536 times the found kind */
 };
 
 #ifdef __cplusplus

@@ -215,7 +215,10 @@ enum {
     OQ3_KIND_LAST = 202 /* the enum's end mark */
 };
 
-/* Codes of errors, by the first words of the message. What an error's argument is stands in docs/MESSAGES.md: a kind for code 1, else 0. */
+/*
+ * Codes of errors, by the first words of the message. What an error's argument is stands in docs/MESSAGES.md: for code 1 the kind that was
+ * expected, and beside it stands the kind that was found; else 0.
+ */
 enum {
     OQ3_MESSAGE_EXPECTED = 1, /* expected KIND, with the kind as argument */
     OQ3_MESSAGE_EXPECTED_SCALAR_RETURN_TYPE_AFTER_ARROW = 2, /* Expected scalar return type after -> */

@@ -9,7 +9,7 @@
 //! too. Nothing is cleared between two calls by the caller.
 
 use answer::{Entry, Ev, Step};
-use differential::{case::Case, generate, rng::Rng};
+use differential::{case::Case, found, generate, rng::Rng};
 use oq3_plain::{entries, Input, TopEntryPoint};
 use std::hint::black_box;
 use std::io::Write;
@@ -20,10 +20,10 @@ mod port;
 
 const SIZES: [usize; 3] = [50, 1_000, 8_000];
 const LARGEST: usize = 131_072;
-const LONGEST: usize = 524_288;
+const LONGEST: usize = 655_360;
 const DONE: u32 = 0;
-/// The record kind of an error.
-const ERROR: u64 = 4;
+/// The record kinds of an error: the second has what was found.
+const ERRORS: [u64; 2] = [4, 5];
 
 /// A port's call with its rooms.
 struct Lent<'c> {
@@ -95,7 +95,7 @@ fn file(input: &Input) -> (Vec<u8>, usize) {
     (file, errors)
 }
 
-/// The crate's steps of a case; the port's must be the same.
+/// The port's steps of a case, and how many are errors. They must be the crate's, which does not say what was found.
 fn agreed(case: &Case) -> (Vec<u8>, usize) {
     let (steps, errors) = file(&entries::input(&case.kinds, &case.joints));
     let mut lent = Lent::new(case, LARGEST, LONGEST);
@@ -103,9 +103,11 @@ fn agreed(case: &Case) -> (Vec<u8>, usize) {
     let words = Ev::WORDS * lent.answer[1] as usize;
     assert_eq!(port::check(&lent.room[..words], &mut [0]), DONE, "a list that passes");
     assert_eq!(lent.resolve(), DONE, "it is resolved");
-    assert!(lent.steps[..lent.answer[0] as usize] == steps, "the same steps");
-    assert_eq!(port::read_file(&steps, &mut lent.answer), DONE, "a good file");
-    (steps, errors)
+    lent.steps.truncate(lent.answer[0] as usize);
+    assert!(found::steps_without(&lent.steps) == steps, "the same steps");
+    assert_eq!(found::wrong_step(&case.kinds, &lent.steps), None, "what was found");
+    assert_eq!(port::read_file(&lent.steps, &mut lent.answer), DONE, "a good file");
+    (lent.steps, errors)
 }
 
 /// Whether the port is done with a list, and how many errors its steps have.
@@ -118,7 +120,7 @@ fn tried(list: &[(u16, bool)]) -> Option<usize> {
     let mut file = &lent.steps[..lent.answer[0] as usize];
     let (mut errors, mut step) = (0, [0; 6]);
     while port::read_step(file, &mut step) == DONE && step[1] != 0 {
-        errors += (step[1] == ERROR) as usize;
+        errors += ERRORS.contains(&step[1]) as usize;
         file = &file[step[0] as usize..];
     }
     Some(errors)

@@ -33,7 +33,8 @@ uint32_t plain_read_file(const uint8_t *file, size_t file_length, uint64_t *answ
             break;
         }
         if (!((kind == OQ3_STEP_ENTER && payload == 2) || (kind == OQ3_STEP_LEAVE && payload == 0) ||
-              (kind == OQ3_STEP_TOKEN && payload == 3 && record[6] >= 1 && record[6] <= 3) || (kind == OQ3_STEP_ERROR && payload == 4))) {
+              (kind == OQ3_STEP_TOKEN && payload == 3 && record[6] >= 1 && record[6] <= 3) || (kind == OQ3_STEP_ERROR && payload == 4) ||
+              (kind == OQ3_STEP_EXPECTED && payload == 6 && two_bytes(record + 4) == 1))) {
             said = OQ3_BAD_RECORD;
             break;
         }

@@ -4,19 +4,15 @@
  *   reader time FILE                 bytes, records, and the times of oq3_read_file and of oq3_read_step one by one, each by that of the loop
  *   reader repeat FILE SIDE COUNT    COUNT turns of one side, for an instrument that counts: plain, whole or steps
  *
- * All three must say the same of the file and of many of its prefixes, or this ends with an error. A time is the median of the ratios of many
- * rounds; a round runs each side for some milliseconds, one after the other, so that what disturbs the machine for longer disturbs them alike.
+ * All three must say the same of the file and of many of its prefixes, or this ends with an error.
  */
 #include <stdio.h>
 #include <stdlib.h>
 #include <string.h>
-#include <time.h>
 
 #include "oq3.h"
 #include "plain.h"
-
-#define ROUNDS 251
-#define BATCH 2e-3 /* seconds of a side in a round, at least */
+#include "rounds.h"
 
 typedef uint32_t (*side)(const uint8_t *, size_t, uint64_t *, size_t);
 
@@ -56,30 +52,15 @@ static const char *const names[3] = { "plain", "whole", "steps" };
 static uint8_t file[OQ3_MOST_STEPS];
 static size_t length;
 
-static void turns(side call, long count)
+static void turns(int number, long count)
 {
     uint64_t answer[OQ3_FILE_WORDS];
     for (long i = 0; i < count; i++) {
-        if (call(file, length, answer, OQ3_FILE_WORDS) != OQ3_DONE) {
+        if (sides[number](file, length, answer, OQ3_FILE_WORDS) != OQ3_DONE) {
             fprintf(stderr, "reader: the file is not good\n");
             exit(1);
         }
     }
-}
-
-static double timed(side call, long count)
-{
-    struct timespec begin, end;
-    clock_gettime(CLOCK_MONOTONIC, &begin);
-    turns(call, count);
-    clock_gettime(CLOCK_MONOTONIC, &end);
-    return (double)(end.tv_sec - begin.tv_sec) + 1e-9 * (double)(end.tv_nsec - begin.tv_nsec);
-}
-
-static int compared(const void *a, const void *b)
-{
-    double x = *(const double *)a, y = *(const double *)b;
-    return (x > y) - (x < y);
 }
 
 /* Whether all sides say the same of the first bytes of the file. */
@@ -97,25 +78,11 @@ static void agree(size_t bytes)
 
 static void compare_times(void)
 {
-    static double ratios[3][ROUNDS];
-    long count[3];
+    double ratios[3];
     uint64_t answer[OQ3_FILE_WORDS];
-    for (int i = 0; i < 3; i++) {
-        for (count[i] = 1; timed(sides[i], count[i]) < BATCH; count[i] *= 2) {
-        }
-    }
-    for (int round = 0; round < ROUNDS; round++) {
-        double times[3];
-        for (int i = 0; i < 3; i++) {
-            times[i] = timed(sides[i], count[i]) / (double)count[i];
-            ratios[i][round] = times[i] / times[0];
-        }
-    }
-    for (int i = 0; i < 3; i++) {
-        qsort(ratios[i], ROUNDS, sizeof ratios[i][0], compared);
-    }
+    medians(turns, 3, ratios);
     oq3_read_file(file, length, answer, OQ3_FILE_WORDS);
-    printf("%lu %lu %.2f %.2f\n", (unsigned long)length, (unsigned long)answer[1], ratios[1][ROUNDS / 2], ratios[2][ROUNDS / 2]);
+    printf("%lu %lu %.2f %.2f\n", (unsigned long)length, (unsigned long)answer[1], ratios[1], ratios[2]);
 }
 
 int main(int count, char **words)
@@ -137,7 +104,7 @@ int main(int count, char **words)
     }
     for (int i = 0; count == 5 && strcmp(words[1], "repeat") == 0 && i < 3; i++) {
         if (strcmp(words[3], names[i]) == 0) {
-            turns(sides[i], atol(words[4]));
+            turns(i, atol(words[4]));
             return 0;
         }
     }

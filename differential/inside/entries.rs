@@ -38,7 +38,7 @@ fn words(events: &[Event]) -> Vec<u32> {
             Event::Token { kind, n_raw_tokens } => Ev::Token(*kind as u16, *n_raw_tokens),
             Event::Error { msg } => {
                 let (code, argument) = answer::message(msg);
-                Ev::Error(code, argument)
+                Ev::Error(code, argument, 0)
             }
         };
         words.extend(ev.words());
@@ -126,8 +126,8 @@ pub fn parse_public(kinds: &[u16], joints: &[u64]) -> Vec<u8> {
     steps(&crate::TopEntryPoint::SourceFile.parse(&input(kinds, joints)))
 }
 
-/// `process` on a list of events given as words: the step file or the panic, or none where two words are no event or a kind is not
-/// one of the crate's.
+/// `process` on a list of events given as words: the step file or the panic, or none where two words are no event, a kind is not one of the
+/// crate's, or an error has found something.
 pub fn process(words: &[u32]) -> Option<Result<Vec<u8>, answer::Panic>> {
     if words.len() % 2 != 0 {
         return None;
@@ -141,7 +141,8 @@ pub fn process(words: &[u32]) -> Option<Result<Vec<u8>, answer::Panic>> {
             }
             Ev::Finish => Event::Finish,
             Ev::Token(number, raw) => Event::Token { kind: kind(number), n_raw_tokens: raw },
-            Ev::Error(code, argument) => Event::Error { msg: answer::made_message(code, argument) },
+            Ev::Error(code, argument, 0) => Event::Error { msg: answer::made_message(code, argument) },
+            Ev::Error(..) => return None,
         });
     }
     let events = events.into();

@@ -96,8 +96,12 @@ pub enum Ev {
     Start(u16, u32),
     Finish,
     Token(u16, u8),
-    Error(u16, u16),
+    /// code, argument, and the kind found: any at code 1, and 0 at the others. The crate says no kind found, so it is 0 in its lists.
+    Error(u16, u16, u16),
 }
+
+/// The code of "expected KIND", the only one that has a kind found.
+pub const EXPECTED: u16 = 1;
 
 impl Ev {
     /// How many words an event has.
@@ -108,7 +112,7 @@ impl Ev {
             Ev::Start(kind, distance) => [START + kind as u32, distance],
             Ev::Finish => [FINISH, 0],
             Ev::Token(kind, raw) => [TOKEN + kind as u32, raw as u32],
-            Ev::Error(code, argument) => [FAULT + code as u32, argument as u32],
+            Ev::Error(code, argument, found) => [FAULT + code as u32, argument as u32 + 65_536 * found as u32],
         }
     }
 
@@ -119,19 +123,20 @@ impl Ev {
             START => Some(Ev::Start(low, w1)),
             FINISH if low == 0 && w1 == 0 => Some(Ev::Finish),
             TOKEN if (1..=3).contains(&w1) => Some(Ev::Token(low, w1 as u8)),
-            FAULT if w1 < 65_536 => Some(Ev::Error(low, w1 as u16)),
+            FAULT if low == EXPECTED || w1 < 65_536 => Some(Ev::Error(low, w1 as u16, (w1 >> 16) as u16)),
             _ => None,
         }
     }
 }
 
-/// One step, as `Output` gives it.
+/// One step, as `Output` gives it; and the port's own, an error of code 1 with the kind expected and the kind found.
 #[derive(Clone, Copy, PartialEq, Eq, Debug)]
 pub enum Step {
     Enter(u16),
     Leave,
     Token(u16, u8),
     Error(u16, u16),
+    Expected(u16, u16),
 }
 
 /// Adds a step's record to a step file.
@@ -156,6 +161,12 @@ pub fn write_step(file: &mut Vec<u8>, step: Step) {
             file.extend(code.to_le_bytes());
             file.extend(argument.to_le_bytes());
         }
+        Step::Expected(kind, found) => {
+            head(file, 6, 5);
+            for number in [EXPECTED, kind, found] {
+                file.extend(number.to_le_bytes());
+            }
+        }
     }
 }
 
@@ -169,7 +180,8 @@ pub fn read_steps(file: &[u8]) -> Vec<Step> {
             1 => Step::Enter(two(at + 4)),
             2 => Step::Leave,
             3 => Step::Token(two(at + 4), file[at + 6]),
-            _ => Step::Error(two(at + 4), two(at + 6)),
+            4 => Step::Error(two(at + 4), two(at + 6)),
+            _ => Step::Expected(two(at + 6), two(at + 8)),
         });
         at += 4 + two(at) as usize;
     }
@@ -195,12 +207,12 @@ pub fn kinds() -> &'static [Kind] {
         let mut kinds = Vec::new();
         for line in KINDS_PAGE.lines() {
             let Some(row) = line.strip_prefix("| ") else { continue };
-            let mut parts = row.splitn(4, " | ");
+            let mut parts = row.split(" | ");
             let Some(Ok(number)) = parts.next().map(str::parse::<usize>) else { continue };
             assert_eq!(number, kinds.len(), "docs/KINDS.md is not in order");
             let name = parts.next().unwrap().trim_matches('`');
             let permitted = parts.next().unwrap() == "yes";
-            let why = parts.next().unwrap().trim_end_matches(" |");
+            let why = parts.next().unwrap();
             kinds.push(Kind { name, permitted, why });
         }
         kinds

@@ -1,13 +1,14 @@
 //! The port's check and resolution against the crate's `process` and the rules, on short, random and very long lists of events: numbers,
-//! places, and every word and byte that is lent.
+//! places, and every word and byte that is lent. What an error has found is carried around `process`.
 
 use crate::lent::Lent;
 use crate::port;
-use answer::{Ev, FAULT, START};
+use answer::{Ev, EXPECTED, FAULT, START};
 use differential::case::numbers;
 use differential::lists::{self, words};
+use differential::replay::process;
 use differential::rng::Rng;
-use oq3_parser::entries::{process, LAST};
+use oq3_parser::entries::LAST;
 
 /// The two calls. `wrong.rs` has others in the place of the port's.
 #[derive(Clone, Copy)]
@@ -34,7 +35,7 @@ pub fn run(count: u64, seed: u64) -> bool {
     for words in limits(&mut rng) {
         seen.look(PORT, &words, rng.next());
     }
-    let [done, two, odd, none, distance, below, open] = seen.ends;
+    let [done, two, odd, none, second, distance, below, open] = seen.ends;
     println!(
         "differential: the port on {randoms} random lists of events from seed {seed}, all {shorts} of at most {short} events and {} at the \
          limits: {} calls, {} differ",
@@ -43,12 +44,13 @@ pub fn run(count: u64, seed: u64) -> bool {
         seen.differing
     );
     println!(
-        "differential: {done} well formed ({} with kinds that the crate has not, {} with chains that meet, a chain of {} the longest), {two} \
-         too long, {odd} odd, {none} with no event, {distance} with a distance that lands on no start, {below} below zero, {open} left open",
-        seen.foreign, seen.meeting, seen.longest
+        "differential: {done} well formed ({} with kinds that the crate has not, {} with what an error has found, {} with chains that meet, a \
+         chain of {} the longest), {two} too long, {odd} odd, {none} with no event, {second} with too large an argument, {distance} with a \
+         distance that lands on no start, {below} below zero, {open} left open",
+        seen.foreign, seen.found, seen.meeting, seen.longest
     );
     // fewer lists may miss one by chance
-    let missed = count >= 5_000 && (seen.ends.contains(&0) || seen.foreign == 0 || seen.meeting == 0);
+    let missed = count >= 5_000 && (seen.ends.contains(&0) || seen.foreign == 0 || seen.found == 0 || seen.meeting == 0);
     if missed {
         println!("differential: the lists miss one of these");
     }
@@ -61,11 +63,12 @@ struct Seen {
     lists: u64,
     calls: u64,
     differing: u64,
-    /// well formed; refused for the number of events, an odd word, two words that are no event, a distance, a depth below zero, a depth
-    /// above zero at the end
-    ends: [u64; 7],
-    /// of those well formed: with a kind that the crate has not, with two starts that point to one
+    /// well formed; refused for the number of events, an odd word, two words that are no event, those of an error whose code has no kind found
+    /// and whose second word is too large, a distance, a depth below zero, a depth above zero at the end
+    ends: [u64; 8],
+    /// of those well formed: with a kind that the crate has not, with a kind found, with two starts that point to one
     foreign: u64,
+    found: u64,
     meeting: u64,
     longest: usize,
 }
@@ -92,6 +95,7 @@ impl Seen {
             Ok(_) => {
                 let list = lists::events(words).expect("events");
                 self.foreign += list.iter().any(|&e| beyond(e)) as u64;
+                self.found += list.iter().any(|e| matches!(e, Ev::Error(EXPECTED, _, 1..))) as u64;
                 let (longest, meet) = chains(&list);
                 self.longest = self.longest.max(longest);
                 self.meeting += meet as u64;
@@ -99,10 +103,11 @@ impl Seen {
             }
             Err((2, _)) => 1,
             Err(_) if words.len() % 2 != 0 => 2,
-            Err((_, at)) if Ev::WORDS * at == words.len() => 6,
+            Err((_, at)) if Ev::WORDS * at == words.len() => 7,
             Err((_, at)) => match Ev::of(words[Ev::WORDS * at], words[Ev::WORDS * at + 1]) {
-                Some(Ev::Start(..)) => 4,
-                Some(_) => 5,
+                Some(Ev::Start(..)) => 5,
+                Some(_) => 6,
+                None if words[Ev::WORDS * at] / 65_536 == 4 => 4,
                 None => 3,
             },
         };
@@ -271,9 +276,9 @@ pub fn smaller(mut words: Vec<u32>, bad: impl Fn(&[u32]) -> bool) -> Vec<u32> {
     }
 }
 
-/// Every list of a length over a few events and two words that are none.
+/// Every list of a length over a few events and two pairs of words that are none.
 fn every(length: usize, each: &mut dyn FnMut(&[u32])) {
-    let alphabet: [[u32; 2]; 10] = [
+    let alphabet: [[u32; 2]; 12] = [
         Ev::Start(0, 0).words(),
         Ev::Start(0, 1).words(),
         Ev::Start(40, 0).words(),
@@ -282,8 +287,10 @@ fn every(length: usize, each: &mut dyn FnMut(&[u32])) {
         Ev::Start(LAST + 1, 3).words(),
         Ev::Finish.words(),
         Ev::Token(50, 2).words(),
-        Ev::Error(7, 300).words(),
+        Ev::Error(7, 300, 0).words(),
+        Ev::Error(EXPECTED, 4, 99).words(),
         [START, 1 << 31],
+        [FAULT + 2, 65_536],
     ];
     for number in 0..alphabet.len().pow(length as u32) {
         let (mut rest, mut words) = (number, Vec::with_capacity(Ev::WORDS * length));
@@ -301,8 +308,17 @@ fn edge(rng: &mut Rng) -> u32 {
     (near + rng.below(9) as u32).wrapping_sub(4)
 }
 
-/// A list at random: as `lists::any` makes them, of the crate's kinds or of any 16 bits; longer chains; errors of all codes and arguments;
-/// words at the edges; a word too many or too few.
+/// The words of an error: of code 1 with any second word, or of any code with an argument of 16 bits.
+fn error(rng: &mut Rng) -> [u32; 2] {
+    if rng.chance(1, 2) {
+        let any = rng.next() as u32;
+        return [FAULT + EXPECTED as u32, *rng.pick(&[0, 65_535, 65_536, 65_537, u32::MAX - 65_535, u32::MAX, any, any])];
+    }
+    [FAULT + rng.below(65_536) as u32, rng.below(65_536) as u32]
+}
+
+/// A list at random: as `lists::any` makes them, of the crate's kinds or of any 16 bits; longer chains; errors of all codes and arguments,
+/// and with any kind found; one with a second word that its code has not; words at the edges; a word too many or too few.
 pub fn any(rng: &mut Rng) -> Vec<u32> {
     let kinds = if rng.chance(1, 4) { u16::MAX } else { LAST };
     let mut list = match rng.below(40) {
@@ -311,9 +327,14 @@ pub fn any(rng: &mut Rng) -> Vec<u32> {
         _ => lists::any(rng, kinds),
     };
     if rng.chance(1, 4) {
-        for pair in list.chunks_mut(2).filter(|pair| pair[0] / 65_536 == 4) {
-            pair.copy_from_slice(&[FAULT + rng.below(65_536) as u32, rng.below(65_536) as u32][..pair.len()]);
+        for pair in list.chunks_exact_mut(2).filter(|pair| pair[0] / 65_536 == 4) {
+            pair.copy_from_slice(&error(rng));
         }
+    }
+    if rng.chance(1, 20) && list.len() > 1 {
+        let at = Ev::WORDS * rng.below(list.len() / Ev::WORDS);
+        let code = *rng.pick(&[0, 2, 2, 3, 257, u16::MAX]);
+        list[at..at + 2].copy_from_slice(&[FAULT + code as u32, *rng.pick(&[65_536, 65_536, 65_537, 131_072, u32::MAX])]);
     }
     if rng.chance(1, 10) && !list.is_empty() {
         let at = rng.below(list.len());
@@ -352,7 +373,8 @@ fn limits(rng: &mut Rng) -> Vec<Vec<u32>> {
         fan(0, MOST),
         fan(40, MOST / 2),
         vec![Token(50, 3); MOST],
-        vec![Error(u16::MAX, u16::MAX); MOST],
+        vec![Error(u16::MAX, u16::MAX, 0); MOST],
+        vec![Error(EXPECTED, u16::MAX, u16::MAX); MOST],
         [Start(40, 0), Finish].repeat(MOST / 2),
         first(Start(0, MOST as u32 - 1)),
         first(Start(0, MOST as u32)),

@@ -44,7 +44,7 @@ pub fn run(count: u64, seed: u64) -> bool {
     for file in &long {
         seen.look(PORT, file, seed);
     }
-    let [done, few, past, kind, length, raw, below, second, none, open] = seen.ends;
+    let [done, few, past, kind, length, raw, code, below, second, none, open] = seen.ends;
     println!(
         "differential: the reader on {count} damaged step files from seed {seed}, all {prefixes} prefixes of {} samples, all {short} rows of \
          at most four records and {} files at the limits: {} calls, {} differ",
@@ -55,8 +55,8 @@ pub fn run(count: u64, seed: u64) -> bool {
     );
     println!(
         "differential: {done} good; 11: {few} with less than a head, {past} with a payload past the end; 12: {kind} with another kind, {length} \
-         with another length, {raw} with another raw count; 13: {below} with a leave first, {second} with a record behind the tree, {none} \
-         empty, {open} left open"
+         with another length, {raw} with another raw count, {code} with another code; 13: {below} with a leave first, {second} with a record \
+         behind the tree, {none} empty, {open} left open"
     );
     let missed = seen.ends.contains(&0) || samples.is_empty();
     if missed {
@@ -65,11 +65,19 @@ pub fn run(count: u64, seed: u64) -> bool {
     seen.differing == 0 && !missed
 }
 
-/// The samples' step files, by their names.
+/// The samples' step files, by their names, those in the folders below samples/ among them.
 pub fn samples() -> Vec<Vec<u8>> {
-    let folder = std::fs::read_dir(concat!(env!("GRISOLEMP"), "/samples")).expect("the samples");
-    let mut paths: Vec<_> = folder.map(|entry| entry.expect("a sample").path()).collect();
-    paths.retain(|path| path.extension().is_some_and(|e| e == "steps"));
+    let (mut folders, mut paths) = (vec![std::path::PathBuf::from(concat!(env!("GRISOLEMP"), "/samples"))], Vec::new());
+    while let Some(folder) = folders.pop() {
+        for entry in std::fs::read_dir(folder).expect("the samples") {
+            let path = entry.expect("a sample").path();
+            if path.is_dir() {
+                folders.push(path);
+            } else if path.extension().is_some_and(|e| e == "steps") {
+                paths.push(path);
+            }
+        }
+    }
     paths.sort();
     paths.iter().map(|path| std::fs::read(path).expect("a step file")).collect()
 }
@@ -80,9 +88,9 @@ struct Seen {
     files: u64,
     calls: u64,
     differing: u64,
-    /// good; refused for less than a head, a payload past the end, a record kind, a length, a raw count, a leave first, a record behind the
-    /// tree, no record, a node left open
-    ends: [u64; 10],
+    /// good; refused for less than a head, a payload past the end, a record kind, a length, a raw count, a code, a leave first, a record behind
+    /// the tree, no record, a node left open
+    ends: [u64; 11],
 }
 
 impl Seen {
@@ -148,7 +156,7 @@ fn weight(step: &Step) -> i64 {
     match step {
         Step::Enter(_) => 1,
         Step::Leave => -1,
-        Step::Token(..) | Step::Error(..) => 0,
+        Step::Token(..) | Step::Error(..) | Step::Expected(..) => 0,
     }
 }
 
@@ -170,12 +178,14 @@ fn says(rest: &[u8]) -> usize {
     4 + rest.first_chunk().map_or(0, |&two| u16::from_le_bytes(two) as usize)
 }
 
-/// The step whose record these bytes are. Its numbers are read as each of the four has them, and what `write_step` makes of one must be the
-/// bytes again.
+/// The step whose record these bytes are. Its numbers are read as each of the five has them, and what `write_step` makes of one must be the
+/// bytes again: so the code of the fifth is 1.
 fn step_of(piece: &[u8], written: &mut Vec<u8>) -> Option<Step> {
     let two = |at: usize| u16::from_le_bytes([0, 1].map(|i| piece.get(at + i).copied().unwrap_or(0)));
     let (first, second) = (two(4), two(6));
-    [Step::Enter(first), Step::Leave, Step::Token(first, second as u8), Step::Error(first, second)].into_iter().find(|&step| {
+    let steps =
+        [Step::Enter(first), Step::Leave, Step::Token(first, second as u8), Step::Error(first, second), Step::Expected(second, two(8))];
+    steps.into_iter().find(|&step| {
         written.clear();
         write_step(written, step);
         written == piece && !matches!(step, Step::Token(_, raw) if raw == 0 || raw > 3)
@@ -190,13 +200,14 @@ fn reason(file: &[u8], must: &Judged) -> usize {
         0 => 0,
         11 if rest.len() < 4 => 1,
         11 => 2,
-        12 if rest[3] != 0 || !(1..=4).contains(&rest[2]) => 3,
-        12 if rest[..3] != [3, 0, 3] => 4,
-        12 => 5,
-        _ if file.is_empty() => 8,
-        _ if rest.is_empty() => 9,
-        _ if place == 0 => 6,
-        _ => 7,
+        12 if rest[3] != 0 || !(1..=5).contains(&rest[2]) => 3,
+        12 if rest[..3] == [3, 0, 3] => 5,
+        12 if rest[..3] == [6, 0, 5] => 6,
+        12 => 4,
+        _ if file.is_empty() => 9,
+        _ if rest.is_empty() => 10,
+        _ if place == 0 => 7,
+        _ => 8,
     }
 }
 
@@ -273,13 +284,15 @@ fn walk(calls: Calls, lent: &mut Lent<u8>, must: &Judged, rng: &mut Rng, made: &
 
 /// The answer to a step.
 fn words(taken: usize, step: Step) -> [u64; STEP] {
-    let (kind, first, second) = match step {
-        Step::Enter(kind) => (1, kind, 0),
-        Step::Leave => (2, 0, 0),
-        Step::Token(kind, raw) => (3, kind, raw as u16),
-        Step::Error(code, argument) => (4, code, argument),
+    let numbers = match step {
+        Step::Enter(kind) => [1, kind, 0, 0],
+        Step::Leave => [2, 0, 0, 0],
+        Step::Token(kind, raw) => [3, kind, raw as u16, 0],
+        Step::Error(code, argument) => [4, code, argument, 0],
+        Step::Expected(kind, found) => [5, 1, kind, found],
     };
-    [taken as u64, kind, first as u64, second as u64, 0, 0]
+    let [kind, first, second, third] = numbers.map(u64::from);
+    [taken as u64, kind, first, second, third, 0]
 }
 
 fn must_be(good: bool, what: impl FnOnce() -> String) -> Result<(), String> {
@@ -343,7 +356,7 @@ impl Record {
     }
 
     fn step(step: Step) -> Record {
-        let mut file = Vec::with_capacity(8);
+        let mut file = Vec::with_capacity(10);
         write_step(&mut file, step);
         Record::of(&file)
     }
@@ -363,20 +376,27 @@ pub fn split(file: &[u8]) -> Vec<Record> {
     cut(file).into_iter().map(|(_, piece)| Record::of(piece)).collect()
 }
 
-/// Every row of at most so many out of a dozen records, with none to three bytes behind it.
+/// Every row of at most so many out of eighteen records, with none to three bytes behind it.
 pub fn rows(most: u32, each: &mut dyn FnMut(&[u8])) {
-    let alphabet: [Record; 12] = [
+    let alphabet: [Record; 18] = [
         Record::step(Step::Enter(40)),
         Record::step(Step::Leave),
         Record::step(Step::Token(50, 1)),
         Record::step(Step::Token(u16::MAX, 3)),
         Record::step(Step::Error(7, 300)),
+        Record::step(Step::Error(1, 4)),
+        Record::step(Step::Expected(4, 99)),
         Record::step(Step::Token(50, 0)),
         Record::step(Step::Token(50, 4)),
         Record::new(0, 0, &[]),
         Record::new(2, 257, &[40, 0]),
         Record::new(2, 2, &[0, 0]),
         Record::new(0, 1, &[]),
+        // record kind 5 with another code, too short, too long, and cut: what stands behind it is taken for its payload
+        Record::new(6, 5, &[2, 0, 4, 0, 99, 0]),
+        Record::new(4, 5, &[1, 0, 4, 0]),
+        Record::new(7, 5, &[1, 0, 4, 0, 99, 0, 0]),
+        Record::new(6, 5, &[1, 0]),
         Record::new(u16::MAX, 9, &[]),
     ];
     let mut row = Vec::new();
@@ -401,27 +421,37 @@ pub fn rows(most: u32, each: &mut dyn FnMut(&[u8])) {
 fn sound(rng: &mut Rng) -> Record {
     let number = |rng: &mut Rng| if rng.chance(1, 8) { *rng.pick(&[0, 255, 256, u16::MAX]) } else { rng.below(203) as u16 };
     let first = number(rng);
-    Record::step(match rng.below(4) {
+    Record::step(match rng.below(5) {
         0 => Step::Enter(first),
         1 => Step::Leave,
         2 => Step::Token(first, 1 + rng.below(3) as u8),
-        _ => Step::Error(first, number(rng)),
+        3 if rng.chance(1, 4) => Step::Error(1, first),
+        3 => Step::Error(first, number(rng)),
+        _ => Step::Expected(first, number(rng)),
     })
 }
 
-/// A record that is not sound, in most cases: another raw count, kind or length, or a length that its payload has not.
+/// A record that is not sound, in most cases: another raw count, code, kind or length, or a length that its payload has not. Half of the
+/// payloads begin with code 1.
 fn unsound(rng: &mut Rng) -> Record {
-    let payload: [u8; 8] = rng.next().to_le_bytes();
-    let kind = 1 + rng.below(4) as u16;
+    let mut payload: [u8; 8] = rng.next().to_le_bytes();
+    if rng.chance(1, 2) {
+        payload[..2].copy_from_slice(&[1, 0]);
+    }
+    let kind = 1 + rng.below(5) as u16;
     let length = rng.below(9);
     let has = &payload[..length];
-    match rng.below(6) {
+    match rng.below(7) {
         0 => Record::step(Step::Token(kind, *rng.pick(&[0, 4, 5, 128, 255]))),
-        1 => Record::new(length as u16, *rng.pick(&[0, 5, 6, 255, 256, 257, 258, 259, 260, 512, u16::MAX]), has),
-        2 => Record::new(length as u16, kind, has),
-        3 => Record::new(256 + [0, 2, 0, 3, 4][kind as usize], kind, has),
-        4 => Record::new(rng.next() as u16, kind, has),
-        _ => Record::new(rng.below(12) as u16, rng.below(7) as u16, has),
+        1 => {
+            let [low, high] = u16::to_le_bytes(*rng.pick(&[0, 2, 2, 3, 255, 256, 257, 512, u16::MAX]));
+            Record::new(6, 5, &[&[low, high], &payload[2..6]].concat())
+        }
+        2 => Record::new(length as u16, *rng.pick(&[0, 6, 7, 255, 256, 257, 258, 259, 260, 261, 512, u16::MAX]), has),
+        3 => Record::new(length as u16, kind, has),
+        4 => Record::new(256 + [0, 2, 0, 3, 4, 6][kind as usize], kind, has),
+        5 => Record::new(rng.next() as u16, kind, has),
+        _ => Record::new(rng.below(12) as u16, rng.below(8) as u16, has),
     }
 }
 
@@ -512,7 +542,7 @@ fn damage_bytes(file: &mut Vec<u8>, rng: &mut Rng) {
     match rng.below(8) {
         0..=1 if within => file[at] ^= 1 << rng.below(8),
         2 if within => file[at] = rng.next() as u8,
-        3 if within => file[at] = *rng.pick(&[0, 1, 2, 3, 4, 5, 255]),
+        3 if within => file[at] = *rng.pick(&[0, 1, 2, 3, 4, 5, 6, 255]),
         4..=5 => file.truncate(at),
         6 => drop(file.splice(at..(at + 1 + rng.below(4)).min(file.len()), [])),
         _ => {
@@ -527,19 +557,19 @@ fn damage_bytes(file: &mut Vec<u8>, rng: &mut Rng) {
 /// Long files: nodes as deep as 16 bits count, and around it; more bytes than any parse makes; the longest payload, whole and cut.
 pub fn limits() -> Vec<Vec<u8>> {
     let (enter, leave) = (Record::step(Step::Enter(40)), Record::step(Step::Leave));
-    let (token, error) = (Record::step(Step::Token(50, 3)), Record::step(Step::Error(u16::MAX, u16::MAX)));
+    let leaves = [Step::Token(50, 3), Step::Error(u16::MAX, u16::MAX), Step::Expected(u16::MAX, u16::MAX)].map(Record::step);
     let mut all = Vec::new();
     for deep in [255, 256, 257, 65_535, 65_536, 65_537] {
-        for leaves in [0, deep - 1, deep, deep + 1] {
-            all.push(joined(&[vec![enter; deep], vec![leave; leaves]].concat()));
+        for closed in [0, deep - 1, deep, deep + 1] {
+            all.push(joined(&[vec![enter; deep], vec![leave; closed]].concat()));
         }
     }
-    for one in [token, error] {
+    for one in leaves {
         all.push(joined(&[vec![enter], vec![one; 200_000], vec![leave]].concat()));
         all.push(joined(&[vec![enter], vec![one; 200_000]].concat()));
         all.push(joined(&[vec![enter], vec![one; 70_000], vec![Record::step(Step::Token(1, 4))], vec![leave]].concat()));
     }
-    for kind in 0..=5 {
+    for kind in 0..=6 {
         for payload in [65_534, 65_535, 65_536] {
             all.push([Record::new(u16::MAX, kind, &[]).bytes(), &vec![0; payload]].concat());
         }

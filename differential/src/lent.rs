@@ -39,10 +39,9 @@ impl<T: Copy + PartialEq> Lent<T> {
         all[..self.from] == self.before[..self.from] && all[self.from..end] == *first && all[end..] == self.before[end..]
     }
 
-    /// Whether `first` stands at the room's front and `rest` in every further place of it.
-    pub fn holds_then(&self, first: &[T], rest: T) -> bool {
-        let now = self.room_now();
-        now.starts_with(first) && now[first.len()..].iter().all(|&word| word == rest)
+    /// Whether one word stands in every place of the room.
+    pub fn filled(&self, word: T) -> bool {
+        self.room_now().iter().all(|&now| now == word)
     }
 
     /// Whether what stands beside the room is as it was.

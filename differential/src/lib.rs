@@ -1,6 +1,7 @@
-//! What the programs of this folder share: cases and their lines, the readable forms, the generators.
+//! What the programs of this folder share: cases and their lines, the readable forms, the generators, what an error has found.
 
 pub mod case;
+pub mod found;
 pub mod generate;
 pub mod lists;
 pub mod replay;
@@ -68,7 +69,7 @@ pub fn spins(words: &[u32]) -> Vec<(u16, u16)> {
         .chunks(2)
         .rev()
         .take(24)
-        .filter_map(|w| if let Some(Ev::Error(code, argument)) = Ev::of(w[0], w[1]) { Some((code, argument)) } else { None })
+        .filter_map(|w| if let Some(Ev::Error(code, argument, _)) = Ev::of(w[0], w[1]) { Some((code, argument)) } else { None })
         .collect();
     codes.sort();
     codes.dedup();

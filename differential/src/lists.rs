@@ -1,7 +1,7 @@
 //! Lists of events: the well-formedness of docs/RULES.md, and generators.
 
 use crate::rng::Rng;
-use answer::{write_step, Ev, Step};
+use answer::{write_step, Ev, Step, EXPECTED};
 
 /// The events of words, or none where they are not all events.
 pub fn events(words: &[u32]) -> Option<Vec<Ev>> {
@@ -76,7 +76,8 @@ pub fn steps(words: &[u32]) -> Vec<u8> {
             }
             Ev::Finish => write_step(&mut file, Step::Leave),
             Ev::Token(kind, raw) => write_step(&mut file, Step::Token(kind, raw)),
-            Ev::Error(code, argument) => write_step(&mut file, Step::Error(code, argument)),
+            Ev::Error(EXPECTED, kind, found) => write_step(&mut file, Step::Expected(kind, found)),
+            Ev::Error(code, argument, _) => write_step(&mut file, Step::Error(code, argument)),
         }
     }
     file
@@ -130,7 +131,7 @@ pub fn made(rng: &mut Rng, kinds: u16, most: usize) -> Vec<Ev> {
                     }
                 }
             }
-            8 => list.push(Ev::Error(1 + rng.below(40) as u16, rng.below(200) as u16)),
+            8 => list.push(Ev::Error(1 + rng.below(40) as u16, rng.below(200) as u16, 0)),
             _ => list.push(Ev::Token(rng.below(kinds as usize + 1) as u16, 1 + rng.below(3) as u8)),
         }
     }

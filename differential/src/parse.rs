@@ -1,5 +1,6 @@
 //! The port's parse against the crate, on short, random, nested and very long lists of tokens: numbers, places, counts, and every word that
-//! is lent. The steps that the port's resolution makes of the list are the crate's.
+//! is lent. With what was found left out, the list is the crate's, and so are the steps that the port's resolution makes of it; what was found
+//! is counted over the tokens.
 
 use crate::lent::Lent;
 use crate::port;
@@ -7,7 +8,7 @@ use answer::{kinds, permitted, read_steps, with_stack, Entry, Ev, ENTRIES};
 use differential::case::{hexes, numbers, Case};
 use differential::replay::{self, LARGEST};
 use differential::rng::Rng;
-use differential::{generate, text};
+use differential::{found, generate, text};
 use std::sync::atomic::{AtomicU64, Ordering};
 
 /// The call: entry, mode, kinds, joint words, event room, answer. `wrong_parse.rs` has others in the place of the port's.
@@ -38,13 +39,16 @@ pub fn run(count: u64, seed: u64) -> bool {
     );
     let said: Vec<String> = CODES.iter().zip(seen.codes).map(|(code, times)| format!("{code} {times}")).collect();
     println!(
-        "differential: numbers said: {}; {} lists resolved to the crate's steps in mode 0, {} in mode 1; at most {} events",
+        "differential: numbers said: {}; {} lists resolved to the crate's steps in mode 0, {} in mode 1, with {} kinds found, {} of them EOF; at \
+         most {} events",
         said.join(", "),
         seen.resolved[0],
         seen.resolved[1],
+        seen.found[0],
+        seen.found[1],
         seen.most
     );
-    let missed = seen.codes.contains(&0) || seen.resolved.contains(&0);
+    let missed = seen.codes.contains(&0) || seen.resolved.contains(&0) || seen.found.contains(&0);
     if missed {
         println!("differential: the cases miss one of these");
     }
@@ -132,6 +136,8 @@ struct Seen {
     codes: [u64; 11],
     /// lists that were resolved, by mode
     resolved: [u64; 2],
+    /// errors of those lists that have found a kind, and those that have found EOF
+    found: [u64; 2],
     /// the most events of a done parse
     most: usize,
     differing: u64,
@@ -152,6 +158,7 @@ impl Seen {
         sum(&mut self.cases, &other.cases);
         sum(&mut self.codes, &other.codes);
         sum(&mut self.resolved, &other.resolved);
+        sum(&mut self.found, &other.found);
         self.most = self.most.max(other.most);
         self.differing += other.differing;
     }
@@ -220,7 +227,7 @@ impl Call<'_> {
 struct Must {
     code: u32,
     answer: Vec<u64>,
-    /// the list and its steps
+    /// the crate's list and its steps, without what was found
     done: Option<(Vec<u32>, Vec<u8>)>,
 }
 
@@ -248,23 +255,38 @@ fn one(parse: Parse, call: &Call, steps: bool, rng: &mut Rng, seen: &mut Seen) -
         return fault("what stands beside the room is not as it was");
     }
     match (must.code, &must.done) {
-        (0, Some((words, _))) if !room.holds_then(words, 0) => {
-            let must = |at: usize| words.get(at).copied().unwrap_or(0);
-            let (at, word) = room.room_now().iter().copied().enumerate().find(|&(at, word)| word != must(at)).expect("a word");
-            return fault(&format!("word {at} of the room is {word} and must be {}", must(at)));
+        (0, Some((words, _))) => {
+            let (list, rest) = room.room_now().split_at(words.len());
+            let plain = found::without(list);
+            if let Some(at) = (0..words.len()).find(|&at| plain[at] != words[at]) {
+                return fault(&format!("word {at} of the room is {} and must be {}, but for what was found", list[at], words[at]));
+            }
+            if let Some(at) = rest.iter().position(|&word| word != 0) {
+                return fault(&format!("word {} of the room is {} and must be 0", words.len() + at, rest[at]));
+            }
+            if let Some((number, found, must)) = found::wrong(call.kinds, list) {
+                return fault(&format!("event {number} has found {found} and must have found {must}"));
+            }
         }
-        (5..=8, _) if !room.holds_then(&[], 0) => return fault("it refuses and the room is not all zero"),
+        (5..=8, _) if !room.filled(0) => return fault("it refuses and the room is not all zero"),
         (1..=4 | 100 | 101, _) if !room.holds(&[]) => return fault("it refuses and the room is not as it was"),
         _ => {}
     }
     if let (true, Some((words, file))) = (steps, &must.done) {
         let mut list = room.room_now()[..words.len()].to_vec();
-        let mut bytes = vec![0; file.len()];
+        let errors = found::count(&list);
+        let mut bytes = vec![0; file.len() + 2 * errors];
         let mut place = [0];
-        if (port::resolve(&mut list, &mut bytes, &mut place), place[0], &bytes) != (0, file.len() as u64, file) {
-            return fault("the steps of its list are not the crate's");
+        let code = port::resolve(&mut list, &mut bytes, &mut place);
+        if (code, place[0], &found::steps_without(&bytes)) != (0, bytes.len() as u64, file) {
+            return fault("the steps of its list are not the crate's, but for what was found");
+        }
+        if let Some((number, found, must)) = found::wrong_step(call.kinds, &bytes) {
+            return fault(&format!("record {number} of the steps of its list has found {found:?} and must have found {must}"));
         }
         seen.resolved[call.mode as usize] += 1;
+        seen.found[0] += errors as u64;
+        seen.found[1] += found::ends(room.room_now()) as u64;
         seen.most = seen.most.max(words.len() / Ev::WORDS);
     }
     Ok(must.code)
@@ -283,7 +305,8 @@ fn compare(parse: Parse, case: &Case, rng: &mut Rng, seen: &mut Seen) -> Result<
     }
     for mode in 0..=1 {
         let peak = if runs { replay::run(case, mode as u64, LARGEST).peak } else { rng.below(20) };
-        let mut rooms = vec![Ev::WORDS * peak + rng.below(2), (Ev::WORDS * peak).saturating_sub(1 + rng.below(2)), rng.below(Ev::WORDS * peak + 4)];
+        let mut rooms =
+            vec![Ev::WORDS * peak + rng.below(2), (Ev::WORDS * peak).saturating_sub(1 + rng.below(2)), rng.below(Ev::WORDS * peak + 4)];
         if mode == 0 {
             rooms.extend([rng.below(4), Ev::WORDS * peak + 2 + rng.below(60), rng.below(4 * peak + 4)]);
         }
@@ -463,27 +486,39 @@ pub fn limits() -> Vec<Case> {
     all
 }
 
-/// The small runs of the port alone, with their answers written out: text, entry, mode, then number and place, and the tree where it is
+/// The small runs of the port alone, with their answers written out: entry, text, mode, then number and place, and the tree where it is
 /// done.
 fn small_runs() -> bool {
+    use Entry::{Expr, Item};
     const A: &str = "(IDENTIFIER IDENT)";
     let minus = |n: usize| format!("{}a", "- ".repeat(n));
     let nest = |n: usize| format!("{}{A}{}", "(PREFIX_EXPR MINUS ".repeat(n), ")".repeat(n));
-    let rows: [(String, u32, (u32, u64), String); 7] = [
-        (minus(63), 0, (0, 64), nest(63)),
-        (minus(64), 0, (6, 64), String::new()),
-        (minus(64), 1, (6, 64), String::new()),
-        ("a & b == c".to_string(), 0, (0, 6), format!("(BIN_EXPR (BIN_EXPR {A} AMP {A}) EQ2/2 {A})")),
-        ("a & b == c".to_string(), 1, (0, 6), format!("(BIN_EXPR {A} AMP (BIN_EXPR {A} EQ2/2 {A}))")),
-        ("x + y = 3".to_string(), 0, (0, 5), format!("(BIN_EXPR {A} PLUS (ASSIGNMENT_STMT {A} EQ (LITERAL INT_NUMBER) !22))")),
-        ("a = b + c".to_string(), 0, (0, 5), format!("(BIN_EXPR (ASSIGNMENT_STMT {A} EQ {A} !22) PLUS {A})")),
+    let rows: [(Entry, String, u32, (u32, u64), String); 10] = [
+        (Expr, minus(63), 0, (0, 64), nest(63)),
+        (Expr, minus(64), 0, (6, 64), String::new()),
+        (Expr, minus(64), 1, (6, 64), String::new()),
+        (Expr, "a & b == c".to_string(), 0, (0, 6), format!("(BIN_EXPR (BIN_EXPR {A} AMP {A}) EQ2/2 {A})")),
+        (Expr, "a & b == c".to_string(), 1, (0, 6), format!("(BIN_EXPR {A} AMP (BIN_EXPR {A} EQ2/2 {A}))")),
+        (Expr, "x + y = 3".to_string(), 0, (0, 5), format!("(BIN_EXPR {A} PLUS (ASSIGNMENT_STMT {A} EQ (LITERAL INT_NUMBER) !22))")),
+        (Expr, "a = b + c".to_string(), 0, (0, 5), format!("(BIN_EXPR (ASSIGNMENT_STMT {A} EQ {A} !22) PLUS {A})")),
+        // what was found: the end, a token where a comma is expected, and the first token of a glued one
+        (Item, "break".to_string(), 0, (0, 1), "(BREAK_STMT BREAK_KW !1:SEMICOLON:EOF)".to_string()),
+        (
+            Expr,
+            "f(1 2)".to_string(),
+            0,
+            (0, 5),
+            format!("(CALL_EXPR {A} (ARG_LIST (EXPRESSION_LIST L_PAREN (LITERAL INT_NUMBER) !1:COMMA:INT_NUMBER (LITERAL INT_NUMBER) R_PAREN)))"),
+        ),
+        (Item, "break == a".to_string(), 0, (0, 1), "(BREAK_STMT BREAK_KW !1:SEMICOLON:EQ)".to_string()),
     ];
     let mut good = true;
-    for (text, mode, must, tree) in &rows {
-        let case = Case::of(Entry::Expr, &text::tokens(text).expect("tokens"));
+    for (entry, text, mode, must, tree) in &rows {
+        let case = Case::of(*entry, &text::tokens(text).expect("tokens"));
         let (mut room, mut answer) = (vec![7; 1_000], [0; 3]);
-        let code = port::parse(2, *mode, &case.kinds, &case.joints, &mut room, &mut answer);
-        let (mut bytes, mut place) = (vec![0; 10_000], [0]);
+        let code = port::parse(*entry as u32, *mode, &case.kinds, &case.joints, &mut room, &mut answer);
+        // ten bytes are enough for the step of an event
+        let (mut bytes, mut place) = (vec![0; 10 * room.len() / Ev::WORDS], [0]);
         let resolved = port::resolve(&mut room[..Ev::WORDS * answer[1] as usize], &mut bytes, &mut place);
         let said = text::tree(&read_steps(&bytes[..if resolved == 0 { place[0] as usize } else { 0 }]));
         if ((code, answer[0]), &said) != (*must, tree) {

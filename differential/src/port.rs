@@ -36,7 +36,7 @@ pub fn check(words: &[u32], answer: &mut [u64]) -> u32 {
     unsafe { oq3_check(words.as_ptr(), words.len(), answer.as_mut_ptr(), answer.len()) }
 }
 
-/// Resolution: its number, and the place as in `check`.
+/// Resolution: its number, and the place as in `check`. Ten bytes of `steps` for each event are always enough.
 pub fn resolve(words: &mut [u32], steps: &mut [u8], answer: &mut [u64]) -> u32 {
     // SAFETY: as in `check`.
     unsafe { oq3_resolve(words.as_mut_ptr(), words.len(), steps.as_mut_ptr(), steps.len(), answer.as_mut_ptr(), answer.len()) }

@@ -1,12 +1,13 @@
 //! What the port must answer, word for word, to the lines of its program `replay`: the watched builds stopped where docs/RULES.md stops
-//! a run. Numbers 1 to 4, the list check and the steps of kinds that the crate has not are written from the rules; everything else is the
-//! crate's.
+//! a run. Numbers 1 to 4, the list check and the steps of kinds that the crate has not are written from the rules, and what an error of code
+//! 1 has found is counted; everything else is the crate's.
 
 use crate::case::{bytes, list, numbers, Case};
-use crate::{generate, lists, text};
-use answer::{kinds, Bounds, End, Entry, Ev, Run, LOOKUPS};
+use crate::{found, generate, lists, text};
+use answer::{kinds, Bounds, End, Entry, Ev, Panic, Run, LOOKUPS};
 
-/// What a parse says: its number, its place, and the run where it is done.
+/// What a parse says: its number, its place, and the run where it is done, which is the crate's: its list and steps are without what was
+/// found.
 pub struct Said {
     pub code: u8,
     pub place: usize,
@@ -74,6 +75,13 @@ pub fn agrees(case: &Case, room: usize) -> bool {
     }
 }
 
+/// The crate's `process` on a list whose errors may have found something. The crate is handed the list without it, and it is carried to the
+/// steps. None where two words are no event, or a kind is not one of the crate's.
+pub fn process(words: &[u32]) -> Option<Result<Vec<u8>, Panic>> {
+    let said = oq3_parser::entries::process(&found::without(words))?;
+    Some(said.map(|file| found::carried(words, &file)))
+}
+
 /// The words of the largest room that is of use.
 pub const LARGEST: usize = 131_072;
 
@@ -113,7 +121,10 @@ pub fn answer(line: &str) -> Option<String> {
             let case = Case::read(entry, kinds, joints)?;
             let said = parse(&case, mode.parse().ok()?, room.parse().ok()?);
             Some(match said.run {
-                Some(run) => format!("0 {} {} {} list {}", said.place, run.events, run.lookups, numbers(&run.words)),
+                Some(run) => {
+                    let words = found::with(&case.kinds, &run.words);
+                    format!("0 {} {} {} list {}", said.place, run.events, run.lookups, numbers(&words))
+                }
                 None => format!("{} {} 0 0 {} -", said.code, said.place, if said.code < 5 { "same" } else { "zero" }),
             })
         }
@@ -126,7 +137,7 @@ pub fn answer(line: &str) -> Option<String> {
             if let Err((code, place)) = lists::check(&words) {
                 return Some(format!("{code} {place} - same"));
             }
-            let file = match oq3_parser::entries::process(&words) {
+            let file = match process(&words) {
                 Some(file) => file.expect("a list that the check passes resolves"),
                 // a kind that the crate's enum cannot hold
                 None => lists::steps(&words),

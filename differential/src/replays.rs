@@ -1,12 +1,12 @@
 //! The recorded cases of the port's program `replay`: its lines, and what it must print for each. The same on every machine.
 
 use crate::record::{cases, write, NAMED};
-use answer::{kinds, permitted, Entry, Ev, ENTRIES};
+use answer::{kinds, permitted, Entry, Ev, ENTRIES, EXPECTED, FAULT};
 use differential::case::{hexes, numbers, Case};
 use differential::replay::{self, LARGEST};
 use differential::rng::Rng;
 use differential::{generate, lists, text};
-use oq3_parser::entries::{process, LAST};
+use oq3_parser::entries::LAST;
 use std::collections::HashSet;
 use std::path::Path;
 
@@ -103,6 +103,18 @@ fn lines() -> Vec<String> {
     lines.list
 }
 
+/// Cases whose errors of code 1 have found something that is worth having by name. The crate's own answers to them are recorded with others.
+const FOUND: [(&str, &str); 8] = [
+    ("item", "break"),
+    ("item", "break == a ;"),
+    ("item", "break = = a ;"),
+    ("item", "a = = b ;"),
+    ("source", "a == b ( 1 2 ; break }"),
+    ("expr", "f(1 2)"),
+    ("expr", "f(1 2, 3 4"),
+    ("expr", "( a >>= b ]"),
+];
+
 /// The small runs of docs/RULES.md, the named cases, the panics, every kind alone.
 fn small(lines: &mut Lines) {
     for (text, rooms) in [("break ;", &[8, 6][..]), ("", &[2, 0]), ("}", &[8]), ("reset ;", &[14])] {
@@ -113,6 +125,12 @@ fn small(lines: &mut Lines) {
     for (number, (entry, text)) in NAMED.into_iter().enumerate() {
         for mode in 0..=1 {
             lines.around(&case(Entry::of(entry).expect("an entry"), text), mode, (number + mode as usize) % 2 == 1);
+        }
+    }
+    // what was found: the end, a token where a comma is expected, the first token of a glued one, a token behind a glued one
+    for (entry, text) in FOUND {
+        for mode in 0..=1 {
+            lines.around(&case(Entry::of(entry).expect("an entry"), text), mode, mode == 1);
         }
     }
     for entry in ENTRIES {
@@ -251,7 +269,7 @@ fn recorded(lines: &mut Lines) {
 fn event_lists(lines: &mut Lines, rng: &mut Rng) {
     let resolve = |lines: &mut Lines, words: &[u32], rng: &mut Rng| {
         let need = match lists::check(words) {
-            Ok(_) => process(words).and_then(Result::ok).unwrap_or_else(|| lists::steps(words)).len(),
+            Ok(_) => replay::process(words).and_then(Result::ok).unwrap_or_else(|| lists::steps(words)).len(),
             Err(_) => rng.below(60),
         };
         for room in [need, need.saturating_sub(1), *rng.pick(&[0, need + 1, need + 30, need / 2])] {
@@ -271,7 +289,7 @@ fn event_lists(lines: &mut Lines, rng: &mut Rng) {
         vec![Start(40, 2), Start(41, 1), Start(42, 0), Finish, Finish, Finish],
         listing.concat(),
         // kinds, codes and arguments of 16 bits
-        vec![Start(u16::MAX, 0), Token(u16::MAX, 3), Error(u16::MAX, u16::MAX), Finish],
+        vec![Start(u16::MAX, 0), Token(u16::MAX, 3), Error(u16::MAX, u16::MAX, 0), Finish],
         vec![Start(LAST + 1, 1), Start(LAST, 0), Finish, Finish],
         vec![Start(0, u32::MAX), Start(0, 0)],
         vec![Start(0, 1), Token(1, 1)],
@@ -292,6 +310,27 @@ fn event_lists(lines: &mut Lines, rng: &mut Rng) {
             lines.add(format!("check {}", numbers(&words)));
             resolve(lines, &words, rng);
         }
+    }
+    // errors of code 1 with any second word, and of others with one that they have not
+    let expected = FAULT + EXPECTED as u32;
+    let mut seconds: Vec<u32> = vec![0, 1, 65_535, 65_536, 65_539, 6_488_068, 1 << 31, u32::MAX - 65_535, u32::MAX];
+    seconds.extend((0..6).map(|_| rng.next() as u32));
+    let mut found: Vec<Vec<u32>> = seconds.iter().map(|&second| vec![expected, second]).collect();
+    found.extend([0, 2, 3, 37, 257, u16::MAX].map(|code| vec![FAULT + code as u32, 65_536]));
+    found.extend([65_535, 65_537, 131_072, u32::MAX].map(|second| vec![FAULT + 2, second]));
+    // in a tree, twice, behind a fault and before one
+    for &second in &seconds {
+        let other = *rng.pick(&seconds);
+        let (open, inside) =
+            (lists::words(&[Start(40, 1), Start(41, 0), Token(50, 2)]), vec![expected, second, FAULT + 7, 300, expected, other]);
+        let shut = lists::words(&[Finish, Finish]);
+        found.push([&open[..], &inside, &shut].concat());
+        found.push([&open[..], &inside, &[FAULT + 2, 65_536], &shut].concat());
+        found.push([&inside[..], &shut].concat());
+    }
+    for words in found {
+        lines.add(format!("check {}", numbers(&words)));
+        resolve(lines, &words, rng);
     }
     // more than 65,536 events
     lines.add(format!("check {}", numbers(&vec![0; 131_074])));

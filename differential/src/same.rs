@@ -4,13 +4,13 @@
 use answer::{kinds, End, Entry, Ev, Run, ENTRIES, LOOKUPS};
 use differential::case::{answer_line, numbers, Case};
 use differential::rng::Rng;
-use differential::{generate, lists};
+use differential::{found, generate, lists, replay};
 
 /// Compares `count` cases and a quarter as many lists, from a seed, and the shortest lists of tokens; true where nothing differs.
 pub fn run(count: u64, seed: u64) -> bool {
     let mut differing = 0;
-    let mut seen =
-        Seen { ends: [0; 3], codes: [false; 38], most: 0, nodes: vec![false; kinds().len()], tokens: vec![false; kinds().len()] };
+    let none = vec![false; kinds().len()];
+    let mut seen = Seen { ends: [0; 3], codes: [false; 38], most: 0, nodes: none.clone(), tokens: none, found: vec![0; kinds().len()] };
     let mut rng = Rng::new(seed);
     for length in 0..=1 {
         generate::short(answer::permitted(), length, |kinds, joints| {
@@ -35,11 +35,17 @@ pub fn run(count: u64, seed: u64) -> bool {
         count / 4
     );
     println!("differential: at most {} lookups since a token in a done run within the depth", seen.most);
+    println!(
+        "differential: {} errors have found {} kinds",
+        seen.found.iter().sum::<u64>(),
+        seen.found.iter().filter(|&&times| times > 0).count()
+    );
     // fewer cases may miss a branch by chance
     differing == 0 && (count < 20_000 || seen.all())
 }
 
-/// What the cases have met: how the runs ended, the codes of their errors, the kinds of their nodes and of their tokens.
+/// What the cases have met: how the runs ended, the codes of their errors, the kinds of their nodes and of their tokens, and how often an error
+/// has found a kind.
 struct Seen {
     ends: [u64; 3],
     /// the most lookups since a token of a done run that keeps to the depth
@@ -47,6 +53,7 @@ struct Seen {
     codes: [bool; 38],
     nodes: Vec<bool>,
     tokens: Vec<bool>,
+    found: Vec<u64>,
 }
 
 /// The kinds of nodes that no line of the grammar makes, and the glued kinds that none consumes.
@@ -59,7 +66,7 @@ impl Seen {
             match Ev::of(w[0], w[1]) {
                 Some(Ev::Start(kind, _)) => self.nodes[kind as usize] = true,
                 Some(Ev::Token(kind, _)) => self.tokens[kind as usize] = true,
-                Some(Ev::Error(code, _)) => self.codes[code as usize] = true,
+                Some(Ev::Error(code, ..)) => self.codes[code as usize] = true,
                 _ => {}
             }
         }
@@ -80,6 +87,11 @@ impl Seen {
             let missing = token && !self.tokens[number] || node && !self.nodes[number];
             if missing != never.contains(&kind.name) {
                 println!("differential: {} was {}", kind.name, if missing { "never met" } else { "met after all" });
+                good = false;
+            }
+            // any token, and the end, can stand where another is expected
+            if (kind.permitted || number == found::EOF as usize) != (self.found[number] > 0) {
+                println!("differential: {} was found {} times", kind.name, self.found[number]);
                 good = false;
             }
         }
@@ -115,6 +127,23 @@ fn one(case: &Case, rng: &mut Rng, seen: &mut Seen) -> bool {
         if oq3_parser::entries::process(&plain.words) != Some(Ok(plain.steps.clone())) {
             faults.push("its list, handed in again, resolves to something else".to_string());
         }
+        // with what was found: left out, it is the crate's list and steps again, and the tokens before it are those of the list and the steps
+        let list = found::with(&case.kinds, &plain.words);
+        let file = lists::steps(&list);
+        if lists::check(&list) != Ok(plain.events) || found::without(&list) != plain.words || found::wrong(&case.kinds, &list).is_some() {
+            faults.push("its list with what was found is another".to_string());
+        }
+        if replay::process(&list) != Some(Ok(file.clone())) || found::steps_without(&file) != plain.steps {
+            faults.push("its steps with what was found are others".to_string());
+        }
+        if found::wrong_step(&case.kinds, &file).is_some() || file.len() != plain.steps.len() + 2 * found::count(&list) {
+            faults.push("its steps do not say what was found".to_string());
+        }
+        for pair in list.chunks(2) {
+            if let Some(Ev::Error(1, _, kind)) = Ev::of(pair[0], pair[1]) {
+                seen.found[kind as usize] += 1;
+            }
+        }
         // a room of the peak is enough, one less is not, and the tokens before the stop are some of those consumed
         let room = |room| parse(oq3_watched::entries::parse, answer::Bounds { room, ..LOOKUPS });
         if room(watched.peak) != watched {
@@ -137,7 +166,7 @@ fn one(case: &Case, rng: &mut Rng, seen: &mut Seen) -> bool {
 fn list(words: &[u32], passing: &mut u64) -> bool {
     let passes = lists::check(words).is_ok();
     *passing += passes as u64;
-    match oq3_parser::entries::process(words) {
+    match replay::process(words) {
         Some(Ok(_)) => return true,
         // words that are no events, or a kind that the crate has not
         None if !passes

@@ -4,7 +4,7 @@ use answer::{kinds, permitted, read_steps, Bounds, End, Entry, Ev, Run, Step, CR
 use differential::case::Case;
 use differential::rng::Rng;
 use differential::text::{kind, tokens, tree};
-use differential::{generate, lists, replay};
+use differential::{found, generate, lists, replay};
 use std::panic::{catch_unwind, AssertUnwindSafe};
 
 use Entry::{Expr, Item, Source};
@@ -21,6 +21,8 @@ pub fn run() -> bool {
         ("P6", p6),
         ("P8, P10 and P11", p8_p10_p11),
         ("the list check, P7 and P9", list_check),
+        ("what was found", what_was_found),
+        ("what was found in a list", found_in_a_list),
         ("the listing", listing),
         ("minus signs", minus_signs),
         ("nests", depths),
@@ -185,6 +187,73 @@ fn list_check() {
         assert_eq!(lists::check(&words(&list)), Ok(65_536));
         assert_eq!(resolved(&list).len(), steps);
     }
+}
+
+/// What the port must answer to a line.
+fn said(line: &str) -> String {
+    replay::answer(line).expect("a line")
+}
+
+/// The crate's answer is without what was found; the port's has it in the second word of code 1, and in record kind 5.
+fn what_was_found() {
+    // the end of the tokens
+    let case = case(Item, "break");
+    let run = plain(&case, LOOKUPS);
+    assert_eq!((run.tokens, run.events, run.lookups), (1, 4, 3));
+    assert_eq!(&run.words[4..6], [262_145, 3]);
+    let list = found::with(&case.kinds, &run.words);
+    assert_eq!(&list[4..6], [262_145, 65_539]);
+    let file = lists::steps(&list);
+    assert_eq!((file.len(), run.steps.len()), (27, 25));
+    assert_eq!(&file[13..23], [6, 0, 5, 0, 1, 0, 3, 0, 1, 0]);
+    assert_eq!(tree(&read_steps(&file)), "(BREAK_STMT BREAK_KW !1:SEMICOLON:EOF)");
+    assert_eq!(tree_of(&run), "(BREAK_STMT BREAK_KW !1:SEMICOLON)");
+    // where a comma is expected; the first token of a glued one; what stands behind a glued one
+    for (entry, text, errors) in [
+        (Expr, "f(1 2)", &[("COMMA", "INT_NUMBER")][..]),
+        (Item, "break == a", &[("SEMICOLON", "EQ")]),
+        (Item, "a = = b ;", &[("SEMICOLON", "IDENT")]),
+        (Expr, "( a >>= b ]", &[("COMMA", "R_BRACK"), ("R_PAREN", "R_BRACK")]),
+        (Expr, "f(a == 1 2", &[("COMMA", "INT_NUMBER"), ("R_PAREN", "EOF")]),
+    ] {
+        let case = self::case(entry, text);
+        let run = plain(&case, LOOKUPS);
+        let list = found::with(&case.kinds, &run.words);
+        let seconds: Vec<u32> = list.chunks(2).filter(|pair| pair[0] == 262_145).map(|pair| pair[1]).collect();
+        let second = |&(expected, found): &(&str, &str)| kind(expected) as u32 + 65_536 * kind(found) as u32;
+        assert_eq!(seconds, errors.iter().map(second).collect::<Vec<_>>(), "{text}");
+        assert!(text != "f(1 2)" || seconds == [6_488_068]);
+        assert_eq!((found::without(&list), found::wrong(&case.kinds, &list)), (run.words, None), "{text}");
+        assert_eq!(found::steps_without(&lists::steps(&list)), run.steps, "{text}");
+    }
+    assert_eq!(said("parse item 0 8 79 0"), "0 1 4 3 list 65680,0,196687,1,262145,65539,131072,0");
+    // what is wrong is told: a kind found of its own, and in a step file record kind 4 or another kind found
+    let other = Ev::Error(1, 3, 2);
+    assert_eq!(found::wrong(&case.kinds, &words(&[Ev::Token(case.kinds[0], 1), other])), Some((1, 2, 1)));
+    assert_eq!(found::wrong_step(&case.kinds, &run.steps), Some((2, None, 1)));
+    assert_eq!(found::wrong_step(&case.kinds, &lists::steps(&words(&[other]))), Some((0, Some(2), case.kinds[0])));
+}
+
+/// In a list that is handed in code 1 may have found anything, and other codes nothing; it is carried to the steps.
+fn found_in_a_list() {
+    for second in [0, 65_535, 65_536, 6_488_068, u32::MAX] {
+        let list = [262_145, second, 262_151, 300, 262_145, !second];
+        assert_eq!(lists::check(&list), Ok(3));
+        let file = replay::process(&list).expect("events").expect("no panic");
+        let half = |word: u32| [word as u16, (word >> 16) as u16];
+        let [[a, b], [c, d]] = [half(second), half(!second)];
+        assert_eq!(read_steps(&file), [Step::Expected(a, b), Step::Error(7, 300), Step::Expected(c, d)]);
+        assert_eq!((file.len(), &file), (28, &lists::steps(&list)));
+        // the crate itself is not asked with a kind found
+        assert_eq!(oq3_parser::entries::process(&list), None);
+    }
+    for code in [0, 2, 3, 257, 65_535] {
+        assert_eq!(lists::check(&[262_144 + code, 65_535]), Ok(1));
+        assert_eq!(lists::check(&[262_144 + code, 65_536]), Err((9, 0)));
+    }
+    assert_eq!(said("resolve 10 262145,65536"), "0 10 06000500010000000100 bare");
+    assert_eq!(said("resolve 9 262145,65536"), "10 10 - same");
+    assert_eq!(said("resolve 10 262146,65536"), "9 0 - same");
 }
 
 fn listing() {

@@ -70,7 +70,8 @@ pub fn names(list: &[u16], joint: impl Fn(usize) -> bool) -> String {
     list.iter().enumerate().map(name).collect::<Vec<_>>().join(" ")
 }
 
-/// Steps as a tree in one line: `(KIND ...)`, tokens by kind (with `/2` or `/3` where glued), errors as `!code` or `!1:KIND`.
+/// Steps as a tree in one line: `(KIND ...)`, tokens by kind (with `/2` or `/3` where glued), errors as `!code`, `!1:KIND` or, with the kind
+/// found, `!1:KIND:KIND`.
 pub fn tree(steps: &[Step]) -> String {
     let name = |k: u16| kinds()[k as usize].name;
     let mut out = String::new();
@@ -85,6 +86,7 @@ pub fn tree(steps: &[Step]) -> String {
             Step::Token(k, raw) => format!("{}/{raw}", name(k)),
             Step::Error(1, k) => format!("!1:{}", name(k)),
             Step::Error(code, _) => format!("!{code}"),
+            Step::Expected(k, found) => format!("!1:{}:{}", name(k), name(found)),
         };
         if !out.is_empty() {
             out.push(' ');

@@ -2,7 +2,16 @@
 
 use crate::events::{any, differs, smaller, Calls, PORT};
 use crate::port::{check, resolve};
+use answer::{read_steps, write_step, Step, EXPECTED, FAULT};
+use differential::found;
 use differential::rng::Rng;
+
+/// A resolution that writes another step for some.
+macro_rules! writes {
+    ($step:pat => $other:expr) => {
+        Calls { resolve: |w, s, a| rewrites(w, s, a, |step| if let $step = step { $other } else { step }), ..PORT }
+    };
+}
 
 /// Runs the wrong ports on random lists until one differs; true where each of them does.
 pub fn run(seed: u64) -> bool {
@@ -19,6 +28,19 @@ pub fn run(seed: u64) -> bool {
         ("a resolution that clears the rest of the room", Calls { resolve: clears_the_rest, ..PORT }),
         ("a resolution that wants a byte more", Calls { resolve: wants_more, ..PORT }),
         ("a resolution that enters first first", Calls { resolve: turns_chains, ..PORT }),
+        // what an error has found
+        ("a check that takes code 2 with a second word of 65,536", Calls { check: |w, a| check(&narrow(w, |code| code == 2), a), ..PORT }),
+        ("a check that takes any second word of any code", Calls { check: |w, a| check(&narrow(w, |_| true), a), ..PORT }),
+        ("a check that judges what was found", Calls { check: |w, a| check(&judged(w, 65_535), a), ..PORT }),
+        ("a check that takes the second word with a sign", Calls { check: |w, a| check(&judged(w, i32::MAX as u32), a), ..PORT }),
+        ("a resolution that takes code 2 with a second word of 65,536", Calls { resolve: takes_large, ..PORT }),
+        ("a resolution that writes record kind 4 for code 1", writes!(Step::Expected(kind, _) => Step::Error(1, kind))),
+        ("a resolution that writes record kind 4 where nothing was found", writes!(Step::Expected(kind, 0) => Step::Error(1, kind))),
+        ("a resolution that writes record kind 5 for code 2", writes!(Step::Error(2, kind) => Step::Expected(kind, 0))),
+        ("a resolution that swaps expected and found", writes!(Step::Expected(kind, found) => Step::Expected(found, kind))),
+        ("a resolution that leaves out what was found", writes!(Step::Expected(kind, _) => Step::Expected(kind, 0))),
+        ("a resolution that writes 8 bits of what was found", writes!(Step::Expected(kind, found) => Step::Expected(kind, found % 256))),
+        ("a resolution that needs eight bytes for every error", Calls { resolve: needs_eight, ..PORT }),
     ];
     let mut missed = 0;
     for (name, calls) in wrong {
@@ -47,6 +69,64 @@ fn refuse(answer: &mut [u64]) -> u32 {
 fn then(code: u32, answer: &mut [u64], change: impl FnOnce(&mut [u64])) -> u32 {
     if !answer.is_empty() {
         change(answer);
+    }
+    code
+}
+
+/// A list with the low half of the second words of errors, where the code says so and is not 1.
+fn narrow(words: &[u32], of: fn(u32) -> bool) -> Vec<u32> {
+    let mut list = words.to_vec();
+    for pair in list.chunks_exact_mut(2).filter(|pair| pair[0] / 65_536 == 4) {
+        let code = pair[0] - FAULT;
+        if code != EXPECTED as u32 && of(code) {
+            pair[1] %= 65_536;
+        }
+    }
+    list
+}
+
+/// A list in which an error of code 1 with a larger second word is none.
+fn judged(words: &[u32], most: u32) -> Vec<u32> {
+    let mut list = words.to_vec();
+    for pair in list.chunks_exact_mut(2).filter(|pair| pair[0] == FAULT + EXPECTED as u32 && pair[1] > most) {
+        pair[0] = 0;
+    }
+    list
+}
+
+fn takes_large(words: &mut [u32], steps: &mut [u8], answer: &mut [u64]) -> u32 {
+    let mut less = narrow(words, |code| code == 2);
+    let code = resolve(&mut less, steps, answer);
+    if code == 0 {
+        words.copy_from_slice(&less);
+    }
+    code
+}
+
+/// A resolution whose steps are others, in a room of their own: 10 where the room of the call is too small for them.
+fn rewrites(words: &mut [u32], steps: &mut [u8], answer: &mut [u64], other: fn(Step) -> Step) -> u32 {
+    let (mut list, mut bytes, mut place) = (words.to_vec(), vec![0; 5 * words.len()], [0]);
+    if answer.is_empty() || resolve(&mut list, &mut bytes, &mut place) != 0 {
+        return resolve(words, steps, answer);
+    }
+    let mut file = Vec::new();
+    for step in read_steps(&bytes[..place[0] as usize]) {
+        write_step(&mut file, other(step));
+    }
+    answer[0] = file.len() as u64;
+    if file.len() > steps.len() {
+        return 10;
+    }
+    words.copy_from_slice(&list);
+    steps[..file.len()].copy_from_slice(&file);
+    0
+}
+
+/// Where the room is too small: eight bytes for each error in the bytes needed.
+fn needs_eight(words: &mut [u32], steps: &mut [u8], answer: &mut [u64]) -> u32 {
+    let code = resolve(words, steps, answer);
+    if code == 10 {
+        answer[0] -= 2 * found::count(words) as u64;
     }
     code
 }

@@ -25,9 +25,11 @@ pub fn run(seed: u64) -> bool {
         ("one that passes a file that ends inside a node", whole!(OpenEnd)),
         ("one that passes a second root", whole!(SecondRoot)),
         ("one that passes an error behind the tree", whole!(ErrorBehind)),
+        ("one that passes an error with what was found behind the tree", whole!(ExpectedBehind)),
         ("one that passes a leave below zero", whole!(Below)),
         ("one that refuses a lone token", whole!(LoneToken)),
         ("one that refuses a lone error", whole!(LoneError)),
+        ("one that refuses a lone error with what was found", whole!(LoneExpected)),
         ("one that says done for an empty file", whole!(Empty)),
         ("one that counts the depth in 8 bits", whole!(Depth8)),
         ("one that counts the depth in 16 bits", whole!(Depth16)),
@@ -45,6 +47,13 @@ pub fn run(seed: u64) -> bool {
         ("one that reads 8 bits of the length", whole!(LowLength)),
         ("one that lets a few bytes stand at the end", whole!(FewBytes)),
         ("one that wants a byte behind the last record", whole!(ByteMore)),
+        ("one that reads record kind 5 with code 2", whole!(AnyCode)),
+        ("one that reads 8 bits of the code", whole!(LowCode)),
+        ("one that reads record kind 5 without what was found", whole!(ShortExpected)),
+        ("one that reads a longer record of kind 5", whole!(LongExpected)),
+        ("one that does not know record kind 5", whole!(NoExpected)),
+        ("one that refuses code 1 in record kind 4", whole!(Old)),
+        ("one that says 12 for a code where the record runs past the end", whole!(CodeFirst)),
         // records: one step
         ("a step with a raw count of 0", one!(Raw0)),
         ("a step with a raw count of 4", one!(Raw4)),
@@ -57,6 +66,13 @@ pub fn run(seed: u64) -> bool {
         ("a step that reads 8 bits of the length", one!(LowLength)),
         ("a step that says the end for a few bytes", one!(FewBytes)),
         ("a step that wants a byte behind its record", one!(ByteMore)),
+        ("a step that reads record kind 5 with code 2", one!(AnyCode)),
+        ("a step that reads 8 bits of the code", one!(LowCode)),
+        ("a step that reads record kind 5 without what was found", one!(ShortExpected)),
+        ("a step that reads a longer record of kind 5", one!(LongExpected)),
+        ("a step that does not know record kind 5", one!(NoExpected)),
+        ("a step that refuses code 1 in record kind 4", one!(Old)),
+        ("a step that says 12 for a code where the record runs past the end", one!(CodeFirst)),
         // the answer about a file
         ("one that refuses all", Calls { file: |_, a| refuse(a), ..PORT }),
         ("one that says done for all", Calls { file: |f, a| then(read_file(f, a), a, |_, _| 0), ..PORT }),
@@ -96,6 +112,16 @@ pub fn run(seed: u64) -> bool {
                 },
                 ..PORT
             },
+        ),
+        (
+            "a step with the kind found before the kind expected",
+            Calls { step: |f, a| stepped(f, a, |k, a| on(k == 5, || a.swap(3, 4))), ..PORT },
+        ),
+        ("a step without what was found", Calls { step: |f, a| stepped(f, a, |k, a| on(k == 5, || a[4] = 0)), ..PORT }),
+        ("a step that says record kind 4 for 5", Calls { step: |f, a| stepped(f, a, |k, a| on(k == 5, || (a[1], a[4]) = (4, 0))), ..PORT }),
+        (
+            "a step that leaves out code 1",
+            Calls { step: |f, a| stepped(f, a, |k, a| on(k == 5, || (a[2], a[3], a[4]) = (a[3], a[4], 0))), ..PORT },
         ),
         (
             "a step without its raw count",
@@ -210,10 +236,19 @@ enum Bend {
     LowLength,
     FewBytes,
     ByteMore,
+    ExpectedBehind,
+    LoneExpected,
+    AnyCode,
+    LowCode,
+    ShortExpected,
+    LongExpected,
+    NoExpected,
+    Old,
+    CodeFirst,
 }
 
-/// The first record of a file that is not empty: bytes taken, record kind, two numbers.
-fn record(bend: Bend, file: &[u8]) -> Result<(usize, u64, u64, u64), u32> {
+/// The first record of a file that is not empty: bytes taken, record kind, three numbers.
+fn record(bend: Bend, file: &[u8]) -> Result<(usize, u64, [u64; 3]), u32> {
     let two = |at: usize| file[at] as u64 + 256 * file[at + 1] as u64;
     if file.len() < 4 {
         return Err(11);
@@ -225,26 +260,38 @@ fn record(bend: Bend, file: &[u8]) -> Result<(usize, u64, u64, u64), u32> {
         2 => length == 0 || bend == Bend::LeaveLoad,
         3 => length == 3,
         4 => length == 4,
+        5 if bend == Bend::NoExpected => false,
+        5 => length == 6 || (bend == Bend::ShortExpected && length == 4) || (bend == Bend::LongExpected && length > 6),
         _ => bend == Bend::Unknown,
     };
     if bend == Bend::KindFirst && !sound {
         return Err(12);
     }
+    if bend == Bend::CodeFirst && kind == 5 && file.len() >= 6 && two(4) != 1 {
+        return Err(12);
+    }
     if 4 + length + (bend == Bend::ByteMore) as u64 > file.len() as u64 {
         return Err(11);
     }
-    let (first, second) = match kind {
-        1 if sound => (two(4), 0),
-        3 if sound => (two(4), file[6] as u64),
-        4 if sound => (two(4), two(6)),
-        _ => (0, 0),
+    let (first, second, third) = match kind {
+        1 if sound => (two(4), 0, 0),
+        3 if sound => (two(4), file[6] as u64, 0),
+        4 if sound => (two(4), two(6), 0),
+        5 if sound => (two(4) % bits(bend == Bend::LowCode), two(6), if length < 6 { 0 } else { two(8) }),
+        _ => (0, 0, 0),
     };
     let least = if bend == Bend::Raw0 { 0 } else { 1 };
     let most = if bend == Bend::Raw4 { 4 } else { 3 };
-    if !sound || (kind == 3 && !(least..=most).contains(&second)) || (bend == Bend::HighKinds && first > 255) {
+    let bad = match kind {
+        3 => !(least..=most).contains(&second),
+        4 => bend == Bend::Old && first == 1,
+        5 => bend != Bend::AnyCode && first != 1,
+        _ => false,
+    };
+    if !sound || bad || (bend == Bend::HighKinds && first > 255) {
         return Err(12);
     }
-    Ok((4 + length as usize, kind, first, second))
+    Ok((4 + length as usize, kind, [first, second, third]))
 }
 
 fn bent_file(bend: Bend, file: &[u8], answer: &mut [u64]) -> u32 {
@@ -262,13 +309,14 @@ fn bent_file(bend: Bend, file: &[u8], answer: &mut [u64]) -> u32 {
         if bend == Bend::NestingFirst && records > 0 && depth == 0 && file.len() - at >= 4 {
             return 13;
         }
-        let (taken, kind, _, _) = match record(bend, &file[at..]) {
+        let (taken, kind, _) = match record(bend, &file[at..]) {
             Ok(read) => read,
             Err(code) => return code,
         };
         let passes = match bend {
             Bend::SecondRoot => kind != 2,
             Bend::ErrorBehind => kind == 4,
+            Bend::ExpectedBehind => kind == 5,
             _ => false,
         };
         if records > 0 && depth == 0 && !passes {
@@ -288,7 +336,13 @@ fn bent_file(bend: Bend, file: &[u8], answer: &mut [u64]) -> u32 {
         };
         records += 1;
         at += taken;
-        if (bend == Bend::LoneToken && kind == 3 || bend == Bend::LoneError && kind == 4) && depth == 0 {
+        let alone = match bend {
+            Bend::LoneToken => kind == 3,
+            Bend::LoneError => kind == 4,
+            Bend::LoneExpected => kind == 5,
+            _ => false,
+        };
+        if alone && depth == 0 {
             return 13;
         }
     }
@@ -312,8 +366,8 @@ fn bent_step(bend: Bend, file: &[u8], answer: &mut [u64]) -> u32 {
         return 0;
     }
     match record(bend, file) {
-        Ok((taken, kind, first, second)) => {
-            answer[..4].copy_from_slice(&[taken as u64, kind, first, second]);
+        Ok((taken, kind, [first, second, third])) => {
+            answer[..5].copy_from_slice(&[taken as u64, kind, first, second, third]);
             0
         }
         Err(code) => code,
@@ -360,6 +414,12 @@ fn stepped(file: &[u8], answer: &mut [u64], change: impl FnOnce(u64, &mut [u64])
         change(answer[1], answer);
     }
     code
+}
+
+fn on(holds: bool, change: impl FnOnce()) {
+    if holds {
+        change();
+    }
 }
 
 /// Where each record begins, up to the first that the port does not read.

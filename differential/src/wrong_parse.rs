@@ -3,9 +3,9 @@
 
 use crate::parse::{around, differs, each_thread, limits, random, smaller, threads, Parse};
 use crate::port::parse;
-use answer::{kinds, permitted, Bounds, End, Entry, Ev, ENTRIES, LOOKUPS};
+use answer::{kinds, permitted, Bounds, End, Entry, Ev, ENTRIES, EXPECTED, LOOKUPS};
 use differential::case::Case;
-use differential::{generate, lists};
+use differential::{found, generate, lists, text};
 
 /// Runs the wrong parses on random cases, on nests and on lists at the limits until one differs; true where each of them does.
 pub fn run(seed: u64) -> bool {
@@ -133,6 +133,49 @@ pub fn run(seed: u64) -> bool {
         ("one whose distances have eight bits", |e, m, k, j, r, a| {
             then(parse(e, m, k, j, r, a), a, |c, _| on(c == 0, || r.chunks_mut(2).filter(|w| w[0] / 65_536 == 1).for_each(|w| w[1] %= 256)))
         }),
+        // what was found
+        ("one that does not say what was found", |e, m, k, j, r, a| finds(e, m, k, j, r, a, |_, _, _| 0)),
+        ("one that finds the token behind", |e, m, k, j, r, a| finds(e, m, k, j, r, a, |k, _, at| found::behind(k, at + 1))),
+        ("one that finds the token before", |e, m, k, j, r, a| {
+            finds(e, m, k, j, r, a, |k, _, at| if at == 0 { 0 } else { found::behind(k, at - 1) })
+        }),
+        ("one that finds 0 at the end", |e, m, k, j, r, a| finds(e, m, k, j, r, a, |k, _, at| k.get(at).copied().unwrap_or(0))),
+        ("one that finds the last token at the end", |e, m, k, j, r, a| {
+            finds(e, m, k, j, r, a, |k, _, at| k.get(at).or(k.last()).copied().unwrap_or(found::EOF))
+        }),
+        ("one that finds the glued kind", |e, m, k, j, r, a| finds(e, m, k, j, r, a, glued)),
+        ("one that counts a glued token once", |e, m, k, j, r, a| {
+            changes(e, m, k, j, r, a, |k, _, _, once| [None, Some(found::behind(k, once))])
+        }),
+        ("one that finds what stands where it ends", |e, m, k, j, r, a| {
+            let (code, list) = (parse(e, m, k, j, r, a), a.get(..2).map_or([0; 2], |a| [a[0] as usize, a[1] as usize]));
+            on(code == 0, || expected(&mut r[..2 * list[1]], |_, _, _| [None, Some(found::behind(k, list[0]))]));
+            code
+        }),
+        ("one that swaps the kind expected and the kind found", |e, m, k, j, r, a| {
+            changes(e, m, k, j, r, a, |k, kind, at, _| [Some(found::behind(k, at)), Some(kind)])
+        }),
+        ("one that does not say what was found for a comma", |e, m, k, j, r, a| {
+            let comma = text::kind("COMMA");
+            changes(e, m, k, j, r, a, move |k, kind, at, _| [None, Some(if kind == comma { 0 } else { found::behind(k, at) })])
+        }),
+        ("one that says what was found for every code", |e, m, k, j, r, a| {
+            let (code, mut tokens) = (parse(e, m, k, j, r, a), 0);
+            let events = if code == 0 { 2 * a[1] as usize } else { 0 };
+            for pair in r[..events].chunks_mut(2) {
+                match Ev::of(pair[0], pair[1]) {
+                    Some(Ev::Token(_, raw)) => tokens += raw as usize,
+                    Some(Ev::Error(code, argument, _)) => {
+                        pair.copy_from_slice(&Ev::Error(code, argument, found::behind(k, tokens)).words())
+                    }
+                    _ => {}
+                }
+            }
+            code
+        }),
+        ("one that looks for what was found", |e, m, k, j, r, a| {
+            then(parse(e, m, k, j, r, a), a, |c, a| on(c == 0, || a[2] += found::count(&r[..2 * a[1] as usize]) as u64))
+        }),
     ];
     let (hunted, threads) = (hunted(seed), threads());
     let found = |parse: Parse| {
@@ -214,6 +257,66 @@ fn on<T>(holds: bool, change: impl FnOnce() -> T) {
 fn put_back(room: &mut [u32], before: &[u32], at: usize) {
     if at < room.len() {
         room[at] = before[at];
+    }
+}
+
+/// Gives each error of code 1 in a list another kind expected or found, by the kind expected, the tokens before it, and the token events
+/// before it.
+fn expected(list: &mut [u32], change: impl Fn(u16, usize, usize) -> [Option<u16>; 2]) {
+    let (mut tokens, mut once) = (0, 0);
+    for pair in list.chunks_mut(2) {
+        match Ev::of(pair[0], pair[1]) {
+            Some(Ev::Token(_, raw)) => {
+                tokens += raw as usize;
+                once += 1;
+            }
+            Some(Ev::Error(EXPECTED, kind, found)) => {
+                let [other, another] = change(kind, tokens, once);
+                pair.copy_from_slice(&Ev::Error(EXPECTED, other.unwrap_or(kind), another.unwrap_or(found)).words());
+            }
+            _ => {}
+        }
+    }
+}
+
+/// A done list whose errors of code 1 are changed so.
+fn changes(
+    entry: u32,
+    mode: u32,
+    kinds: &[u16],
+    joints: &[u64],
+    room: &mut [u32],
+    answer: &mut [u64],
+    change: impl Fn(&[u16], u16, usize, usize) -> [Option<u16>; 2],
+) -> u32 {
+    let code = parse(entry, mode, kinds, joints, room, answer);
+    if code == 0 {
+        expected(&mut room[..2 * answer[1] as usize], |kind, tokens, once| change(kinds, kind, tokens, once));
+    }
+    code
+}
+
+/// A done list whose errors of code 1 have found something else, by the tokens, the joint words and the tokens before it.
+fn finds(
+    entry: u32,
+    mode: u32,
+    kinds: &[u16],
+    joints: &[u64],
+    room: &mut [u32],
+    answer: &mut [u64],
+    find: impl Fn(&[u16], &[u64], usize) -> u16,
+) -> u32 {
+    changes(entry, mode, kinds, joints, room, answer, |kinds, _, tokens, _| [None, Some(find(kinds, joints, tokens))])
+}
+
+/// The kind of two tokens that are glued, where they stand behind so many, else the kind of the one.
+fn glued(list: &[u16], joints: &[u64], at: usize) -> u16 {
+    let joint = joints.get(at / 64).is_some_and(|word| word >> (at % 64) & 1 == 1);
+    let both = list.get(at..at + 2).map(|two| two.iter().map(|&kind| kinds()[kind as usize].name).collect::<Vec<_>>().join(", "));
+    let made = |kind: &answer::Kind| both.as_ref().is_some_and(|both| kind.why.strip_prefix("glued by the parser of ") == Some(both));
+    match kinds().iter().position(made) {
+        Some(number) if joint => number as u16,
+        _ => found::behind(list, at),
     }
 }
 
@@ -355,7 +458,7 @@ fn by_the_crate(
         End::Lookups => 7,
     };
     if code == 0 {
-        room[..run.words.len()].copy_from_slice(&run.words);
+        room[..run.words.len()].copy_from_slice(&found::with(kinds, &run.words));
         return answered(0, answer, [run.tokens as u64, run.events as u64, run.lookups], || ());
     }
     answered(code, answer, [run.tokens as u64, 0, 0], || ())

@@ -35,12 +35,13 @@ static void explain(uint32_t said, uint64_t place, size_t length)
 /* Runs one step. Here it prints it. */
 static void perform(const uint64_t *step)
 {
-    unsigned long first = (unsigned long)step[2], second = (unsigned long)step[3];
+    unsigned long first = (unsigned long)step[2], second = (unsigned long)step[3], third = (unsigned long)step[4];
     switch (step[1]) {
     case OQ3_STEP_ENTER: printf("enter %lu\n", first); break;
     case OQ3_STEP_LEAVE: printf("leave\n"); break;
     case OQ3_STEP_TOKEN: printf("token %lu %lu\n", first, second); break;
     case OQ3_STEP_ERROR: printf("error %lu %lu\n", first, second); break;
+    case OQ3_STEP_EXPECTED: printf("error %lu %lu %lu\n", first, second, third); break; /* code 1; the kinds expected and found */
     }
 }
 

@@ -17,7 +17,8 @@
 enum {
     L_PAREN = OQ3_KIND_L_PAREN, R_CURLY = OQ3_KIND_R_CURLY, MINUS = OQ3_KIND_MINUS, DEF_KW = OQ3_KIND_DEF_KW, DELAY_KW = OQ3_KIND_DELAY_KW,
     RESET_KW = OQ3_KIND_RESET_KW, INT_NUMBER = OQ3_KIND_INT_NUMBER, IDENT = OQ3_KIND_IDENT, SEMICOLON = OQ3_KIND_SEMICOLON, EQ = OQ3_KIND_EQ,
-    EQ2 = OQ3_KIND_EQ2, ERROR = OQ3_KIND_ERROR, BIN_EXPR = OQ3_KIND_BIN_EXPR, IDENTIFIER = OQ3_KIND_IDENTIFIER
+    EQ2 = OQ3_KIND_EQ2, ERROR = OQ3_KIND_ERROR, BIN_EXPR = OQ3_KIND_BIN_EXPR, IDENTIFIER = OQ3_KIND_IDENTIFIER, BREAK_KW = OQ3_KIND_BREAK_KW,
+    BREAK_STMT = OQ3_KIND_BREAK_STMT
 };
 
 static int failed;
@@ -143,7 +144,7 @@ static void reads(int line, size_t bytes, size_t answers, uint32_t number, uint6
 
 /* One step, of the step room's bytes from one place to another: its number, the bytes taken, the record kind and the payload's numbers. */
 static void takes(int line, size_t from, size_t to, size_t answers, uint32_t number, uint64_t taken, uint64_t record, uint64_t first,
-                  uint64_t second)
+                  uint64_t second, uint64_t third)
 {
     begin();
     is(line, "the number", oq3_read_step(steps + from, to - from, answer, answers), number);
@@ -153,7 +154,7 @@ static void takes(int line, size_t from, size_t to, size_t answers, uint32_t num
         is(line, "the record kind", answer[1], record);
         is(line, "the first number", answer[2], first);
         is(line, "the second number", answer[3], second);
-        is(line, "the third number", answer[4], 0);
+        is(line, "the third number", answer[4], third);
         is(line, "the fourth number", answer[5], 0);
     }
 }
@@ -165,7 +166,7 @@ static void record(int line, const uint8_t *bytes, size_t count, uint32_t number
     memcpy(steps, bytes, count);
     reads(line, count, OQ3_FILE_WORDS + 1, number, number == OQ3_DONE ? count : 0, number == OQ3_DONE);
     if (number != OQ3_DONE) {
-        takes(line, 0, count, OQ3_STEP_WORDS + 1, number, 0, 0, 0, 0);
+        takes(line, 0, count, OQ3_STEP_WORDS + 1, number, 0, 0, 0, 0, 0);
     }
 }
 
@@ -173,7 +174,8 @@ static void record(int line, const uint8_t *bytes, size_t count, uint32_t number
 #define CHECKS(...) checks(__LINE__, __VA_ARGS__)
 #define RESOLVES(...) resolves(__LINE__, __VA_ARGS__)
 #define READS(...) reads(__LINE__, __VA_ARGS__)
-#define TAKES(...) takes(__LINE__, __VA_ARGS__)
+#define TAKES(...) takes(__LINE__, __VA_ARGS__, 0)
+#define TAKES_THREE(...) takes(__LINE__, __VA_ARGS__)
 #define RECORD(bytes, number) record(__LINE__, bytes, sizeof bytes, number)
 
 static void tokens(const uint16_t *list_of, size_t count)
@@ -311,7 +313,7 @@ int main(void)
     const uint8_t token_one[] = { 3, 0, OQ3_STEP_TOKEN, 0, 255, 255, 1 }, token_three[] = { 3, 0, OQ3_STEP_TOKEN, 0, 0, 0, 3 };
     const uint8_t token_none[] = { 3, 0, OQ3_STEP_TOKEN, 0, 50, 0, 0 }, token_four[] = { 3, 0, OQ3_STEP_TOKEN, 0, 50, 0, 4 };
     const uint8_t lone_error[] = { 4, 0, OQ3_STEP_ERROR, 0, 255, 255, 254, 255 };
-    const uint8_t no_kind[] = { 0, 0, 9, 0 }, far_past[] = { 255, 255, 9, 0 }, kind_five[] = { 4, 0, 5, 0, 1, 0, 3, 0 }, end_kind[] = { 0, 0, 0, 0 };
+    const uint8_t no_kind[] = { 0, 0, 9, 0 }, far_past[] = { 255, 255, 9, 0 }, kind_six[] = { 4, 0, 6, 0, 1, 0, 3, 0 }, end_kind[] = { 0, 0, 0, 0 };
     const uint8_t enter_long[] = { 3, 0, OQ3_STEP_ENTER, 0, 40, 0, 0 }, leave_long[] = { 1, 0, OQ3_STEP_LEAVE, 0, 0 };
     const uint8_t token_short[] = { 2, 0, OQ3_STEP_TOKEN, 0, 50, 0 }, error_short[] = { 3, 0, OQ3_STEP_ERROR, 0, 1, 0, 3 };
     const uint8_t high_kind[] = { 0, 0, OQ3_STEP_LEAVE, 1 };
@@ -323,13 +325,37 @@ int main(void)
     RECORD(token_four, OQ3_BAD_RECORD);
     RECORD(no_kind, OQ3_BAD_RECORD);
     RECORD(far_past, OQ3_CUT_RECORD);
-    RECORD(kind_five, OQ3_BAD_RECORD);
+    RECORD(kind_six, OQ3_BAD_RECORD);
     RECORD(end_kind, OQ3_BAD_RECORD);
     RECORD(enter_long, OQ3_BAD_RECORD);
     RECORD(leave_long, OQ3_BAD_RECORD);
     RECORD(token_short, OQ3_BAD_RECORD);
     RECORD(error_short, OQ3_BAD_RECORD);
     RECORD(high_kind, OQ3_BAD_RECORD);
+
+    /* Record kind 5 has code 1 and 6 bytes, and any two kinds. A file that is older than it has code 1 in record kind 4, and stays good. */
+    const uint8_t lone_expected[] = { 6, 0, OQ3_STEP_EXPECTED, 0, OQ3_MESSAGE_EXPECTED, 0, SEMICOLON, 0, OQ3_KIND_EOF, 0 };
+    const uint8_t expected_most[] = { 6, 0, OQ3_STEP_EXPECTED, 0, 1, 0, 255, 255, 254, 255 };
+    const uint8_t expected_code[] = { 6, 0, OQ3_STEP_EXPECTED, 0, 2, 0, 3, 0, 1, 0 }, expected_none[] = { 6, 0, OQ3_STEP_EXPECTED, 0, 0, 0, 3, 0, 1, 0 };
+    const uint8_t expected_high[] = { 6, 0, OQ3_STEP_EXPECTED, 0, 1, 1, 3, 0, 1, 0 }, expected_cut[] = { 6, 0, OQ3_STEP_EXPECTED, 0, 2, 0, 3, 0, 1 };
+    const uint8_t expected_short[] = { 4, 0, OQ3_STEP_EXPECTED, 0, 1, 0, 3, 0 }, expected_long[] = { 7, 0, OQ3_STEP_EXPECTED, 0, 1, 0, 3, 0, 1, 0, 0 };
+    const uint8_t older[] = { 4, 0, OQ3_STEP_ERROR, 0, OQ3_MESSAGE_EXPECTED, 0, SEMICOLON, 0 };
+    RECORD(lone_expected, OQ3_DONE);
+    TAKES_THREE(0, 10, OQ3_STEP_WORDS, OQ3_DONE, 10, OQ3_STEP_EXPECTED, 1, SEMICOLON, OQ3_KIND_EOF);
+    for (i = 1; i < 10; i++) {
+        READS(i, OQ3_FILE_WORDS, OQ3_CUT_RECORD, 0, 0);
+        TAKES(0, i, OQ3_STEP_WORDS, OQ3_CUT_RECORD, 0, 0, 0, 0);
+    }
+    RECORD(expected_most, OQ3_DONE);
+    TAKES_THREE(0, 10, OQ3_STEP_WORDS + 2, OQ3_DONE, 10, OQ3_STEP_EXPECTED, 1, 65535, 65534);
+    RECORD(expected_code, OQ3_BAD_RECORD);
+    RECORD(expected_none, OQ3_BAD_RECORD);
+    RECORD(expected_high, OQ3_BAD_RECORD);
+    RECORD(expected_cut, OQ3_CUT_RECORD);
+    RECORD(expected_short, OQ3_BAD_RECORD);
+    RECORD(expected_long, OQ3_BAD_RECORD);
+    RECORD(older, OQ3_DONE);
+    TAKES(0, 8, OQ3_STEP_WORDS, OQ3_DONE, 8, OQ3_STEP_ERROR, 1, SEMICOLON);
 
     /* What the entry item leaves: one root on `}`, several on `reset ;`. Of a list without steps the file has no bytes. */
     const uint16_t brace[] = { R_CURLY }, resets[] = { RESET_KW, SEMICOLON };
@@ -347,12 +373,43 @@ int main(void)
     RESOLVES(2, STEPS, OQ3_LIST_WORDS, OQ3_DONE, 0);
     READS(0, OQ3_FILE_WORDS, OQ3_BAD_NESTING, 0, 0);
 
-    /* An error is a step, and the largest record. */
-    const uint32_t error[] = { OQ3_EVENT_ERROR + OQ3_MESSAGE_EXPECTED, SEMICOLON };
-    const uint8_t error_file[] = { 4, 0, OQ3_STEP_ERROR, 0, OQ3_MESSAGE_EXPECTED, 0, SEMICOLON, 0 };
+    /* `break` without its semicolon: the error has what was expected and what was found, the end or another token. */
+    const uint16_t broken[] = { BREAK_KW, IDENT };
+    const uint8_t break_file[] = {
+        2, 0, OQ3_STEP_ENTER, 0, BREAK_STMT, 0, 3, 0, OQ3_STEP_TOKEN, 0, BREAK_KW, 0, 1,
+        6, 0, OQ3_STEP_EXPECTED, 0, OQ3_MESSAGE_EXPECTED, 0, SEMICOLON, 0, OQ3_KIND_EOF, 0, 0, 0, OQ3_STEP_LEAVE, 0
+    };
+    tokens(broken, 1);
+    IS(oq3_parse(OQ3_ITEM, OQ3_MODE_CRATE, kinds, 1, joints, 1, room, 100, answer, OQ3_PARSE_WORDS), OQ3_DONE);
+    RESOLVES(OQ3_ROOM_WORDS(answer[1]), STEPS, OQ3_LIST_WORDS, OQ3_DONE, sizeof break_file);
+    is(__LINE__, "the step file", (uint64_t)memcmp(steps, break_file, sizeof break_file), 0);
+    READS(27, OQ3_FILE_WORDS, OQ3_DONE, 27, 4);
+    tokens(broken, 2);
+    IS(oq3_parse(OQ3_ITEM, OQ3_MODE_CRATE, kinds, 2, joints, 1, room, 100, answer, OQ3_PARSE_WORDS), OQ3_DONE);
+    RESOLVES(OQ3_ROOM_WORDS(answer[1]), STEPS, OQ3_LIST_WORDS, OQ3_DONE, 27);
+    TAKES_THREE(13, 27, OQ3_STEP_WORDS, OQ3_DONE, 10, OQ3_STEP_EXPECTED, OQ3_MESSAGE_EXPECTED, SEMICOLON, IDENT);
+
+    /* An error with code 1 is the largest record. Any second word is one of it; with another code one above 65,535 is none. */
+    const uint32_t error[] = { OQ3_EVENT_ERROR + OQ3_MESSAGE_EXPECTED, SEMICOLON + 65536u * IDENT };
+    const uint8_t error_file[] = { 6, 0, OQ3_STEP_EXPECTED, 0, OQ3_MESSAGE_EXPECTED, 0, SEMICOLON, 0, IDENT, 0 };
+    const uint32_t error_most[] = { OQ3_EVENT_ERROR + OQ3_MESSAGE_EXPECTED, 4294967295u }, error_found[] = { OQ3_EVENT_ERROR + 2, 65536 };
+    const uint32_t error_other[] = { OQ3_EVENT_ERROR + 2, 65535 };
     list(error, 2);
-    RESOLVES(2, OQ3_STEP_BYTES(1), OQ3_LIST_WORDS, OQ3_DONE, 8);
+    CHECKS(2, OQ3_LIST_WORDS, OQ3_DONE, 1);
+    RESOLVES(2, OQ3_STEP_BYTES(1) - 1, OQ3_LIST_WORDS, OQ3_NO_STEP_ROOM, 10);
+    RESOLVES(2, OQ3_STEP_BYTES(1), OQ3_LIST_WORDS, OQ3_DONE, 10);
     is(__LINE__, "the step file", (uint64_t)memcmp(steps, error_file, sizeof error_file), 0);
+    list(error_most, 2);
+    CHECKS(2, OQ3_LIST_WORDS, OQ3_DONE, 1);
+    RESOLVES(2, STEPS, OQ3_LIST_WORDS, OQ3_DONE, 10);
+    TAKES_THREE(0, 10, OQ3_STEP_WORDS, OQ3_DONE, 10, OQ3_STEP_EXPECTED, OQ3_MESSAGE_EXPECTED, 65535, 65535);
+    list(error_other, 2);
+    CHECKS(2, OQ3_LIST_WORDS, OQ3_DONE, 1);
+    RESOLVES(2, STEPS, OQ3_LIST_WORDS, OQ3_DONE, 8);
+    TAKES(0, 8, OQ3_STEP_WORDS, OQ3_DONE, 8, OQ3_STEP_ERROR, 2, 65535);
+    list(error_found, 2);
+    CHECKS(2, OQ3_LIST_WORDS, OQ3_FAULTY_LIST, 0);
+    RESOLVES(2, STEPS, OQ3_LIST_WORDS, OQ3_FAULTY_LIST, 0);
 
     /* 9: a depth below zero at event 1, one above zero at the end, a distance past the end, words that are no event. */
     const uint32_t below[] = { OQ3_EVENT_TOKEN + IDENT, 1, OQ3_EVENT_FINISH, 0 };
@@ -422,6 +479,7 @@ int main(void)
     IS(OQ3_MOST_EVENTS, 65536);
     IS(OQ3_MOST_ROOM, OQ3_ROOM_WORDS(OQ3_MOST_EVENTS));
     IS(OQ3_KIND_TOMBSTONE, 0);
+    IS(OQ3_MOST_STEPS, 655360);
     IS(OQ3_STEP_BYTES(OQ3_MOST_EVENTS), OQ3_MOST_STEPS);
 
     if (!failed) {

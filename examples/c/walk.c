@@ -1,7 +1,7 @@
 /*
- * Parses a small program, resolves it, reads its step file and prints the tree; then shows a refusal. The tokens come from a lexer that is
- * not part of the library: here they are written out, with the names of oq3_kinds.h. sequencer.c reads a step file that another program has
- * made.
+ * Parses a small program, resolves it, reads its step file and prints the tree; then the same of its beginning, where a token is missing; then
+ * shows a refusal. The tokens come from a lexer that is not part of the library: here they are written out, with the names of oq3_kinds.h.
+ * sequencer.c reads a step file that another program has made.
  */
 #include <stdio.h>
 
@@ -23,6 +23,7 @@ static const uint16_t kinds[] = {
 };
 
 #define TOKENS (sizeof kinds / sizeof *kinds)
+#define CUT 5 /* the first tokens, up to the semicolon that they miss */
 
 /* No two of these tokens are glued, as the halves of == are, so no bit is needed. */
 static const uint64_t joints[OQ3_JOINT_WORDS(TOKENS)] = { 0 };
@@ -35,6 +36,7 @@ static uint64_t answer[OQ3_PARSE_WORDS];
 static const char *name_of(unsigned kind)
 {
     switch (kind) {
+    case OQ3_KIND_EOF: return " end";
     case OQ3_KIND_SEMICOLON: return " ;";
     case OQ3_KIND_COMMA: return " ,";
     case OQ3_KIND_L_BRACK: return " [";
@@ -60,7 +62,7 @@ static long walk(const uint8_t *file, size_t length)
         return -1;
     }
     while (oq3_read_step(file + at, length - at, step, OQ3_STEP_WORDS) == OQ3_DONE && step[1] != OQ3_STEP_END) {
-        unsigned first = (unsigned)step[2], second = (unsigned)step[3];
+        unsigned first = (unsigned)step[2], second = (unsigned)step[3], third = (unsigned)step[4];
         if (step[1] == OQ3_STEP_ENTER) {
             printf("%*snode %u%s\n", 2 * depth, "", first, name_of(first));
             depth++;
@@ -69,6 +71,8 @@ static long walk(const uint8_t *file, size_t length)
         } else if (step[1] == OQ3_STEP_TOKEN) {
             printf("%*stoken %u%s\n", 2 * depth, "", first, name_of(first));
             tokens += (long)second;
+        } else if (step[1] == OQ3_STEP_EXPECTED) {
+            printf("%*serror %u, expected %u%s but found %u%s\n", 2 * depth, "", first, second, name_of(second), third, name_of(third));
         } else {
             printf("%*serror %u, argument %u\n", 2 * depth, "", first, second);
         }
@@ -77,13 +81,14 @@ static long walk(const uint8_t *file, size_t length)
     return tokens;
 }
 
-int main(void)
+/* Parses the first tokens of the program and prints the tree. Returns whether that was done. */
+static int show(size_t tokens)
 {
-    uint32_t said = oq3_parse(OQ3_SOURCE_FILE, OQ3_MODE_CRATE, kinds, TOKENS, joints, OQ3_JOINT_WORDS(TOKENS), room, OQ3_ROOM_WORDS(EVENTS),
+    uint32_t said = oq3_parse(OQ3_SOURCE_FILE, OQ3_MODE_CRATE, kinds, tokens, joints, OQ3_JOINT_WORDS(tokens), room, OQ3_ROOM_WORDS(EVENTS),
                               answer, OQ3_PARSE_WORDS);
     if (said != OQ3_DONE) {
         printf("the parse is refused with %u at token %lu\n", (unsigned)said, (unsigned long)answer[0]);
-        return 1;
+        return 0;
     }
     printf("%lu tokens, %lu events, %lu lookups\n", (unsigned long)answer[0], (unsigned long)answer[1], (unsigned long)answer[2]);
 
@@ -92,10 +97,19 @@ int main(void)
     said = oq3_resolve(room, words, steps, sizeof steps, answer, OQ3_PARSE_WORDS);
     if (said != OQ3_DONE) {
         printf("the resolution is refused with %u\n", (unsigned)said);
-        return 1;
+        return 0;
     }
-    if (walk(steps, (size_t)answer[0]) != (long)TOKENS) {
+    if (walk(steps, (size_t)answer[0]) != (long)tokens) {
         printf("the steps do not cover the tokens\n");
+        return 0;
+    }
+    return 1;
+}
+
+int main(void)
+{
+    uint32_t said;
+    if (!show(TOKENS) || !show(CUT)) {
         return 1;
     }
 

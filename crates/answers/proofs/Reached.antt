@@ -15,7 +15,7 @@ use Rattle.runtime.specs.declared.parser.Stop.the-variants.{Deep, Panic}
 use Rattle.input.specs.Input.{Env}
 use Rattle.input.specs.Glue.{partsOf, rawCount}
 use Rattle.runtime.specs.State.{St, looked, halted, stopNumber, numbers, added, rewritten, refuse, popped, eventAt, pushEvent, enough, consume, doBump, named, linked, dropped, mostLooks, counted, refusal, gap}
-use Rattle.runtime.specs.Acts.{Act, Act.looks, Act.peeks, Act.eats, Act.takes, Act.starts, Act.completes, Act.abandons, Act.precedes, Act.extends, Act.fails, Act.stops, Act.asks, kindAhead, sees, step, Acts, Acts.done, Acts.act, run}
+use Rattle.runtime.specs.Acts.{Act, Act.looks, Act.peeks, Act.eats, Act.takes, Act.starts, Act.completes, Act.abandons, Act.precedes, Act.extends, Act.fails, Act.lacks, Act.stops, Act.asks, kindAhead, sees, step, Acts, Acts.done, Acts.act, run}
 use Rattle.runtime.proofs.Runs.{refused-run}
 use Rattle.answers.specs.Refusals.{adding, moving, marked, meets, met}
 
@@ -145,7 +145,8 @@ module _ (s : St) (z : s .p .refused ≡ 0) where
   steps e (abandons m) = drops s z m
   steps e (precedes m) = preceding m (gap m (s .p .len))
   steps e (extends to m) = links s z m (gap m to)
-  steps e (fails code arg) = pushes s z (Error code arg)
+  steps e (fails code arg) = pushes s z (Error code arg 0)
+  steps e (lacks k) = pushes s z (Error 1 k (kindAhead e (s .p) 0))
   steps e (stops why) = stopping s z (stopNumber why) (stop-reason why)
   steps e asks = still s z
 

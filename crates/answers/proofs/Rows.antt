@@ -3,12 +3,12 @@ use mathlib.Core.Path.{_≡_, refl}
 use mathlib.Core.List.{List, [], _∷_, _++_, map}
 use Prim.Native.Nat.{ℕ, _*_}
 use lib.ListN.{replicate}
-use Rattle.kinds.specs.Kinds.{ALIAS-DECLARATION-STATEMENT, AMP, BIN-EXPR, BREAK-KW, BREAK-STMT, EQ, EQ2, ERROR, IDENT, IDENTIFIER, LET-KW, MINUS, NAME, PREFIX-EXPR, R-CURLY, RESET-KW, SEMICOLON, SOURCE-FILE, TOMBSTONE}
+use Rattle.kinds.specs.Kinds.{ALIAS-DECLARATION-STATEMENT, AMP, ARG-LIST, BIN-EXPR, BREAK-KW, BREAK-STMT, CALL-EXPR, COMMA, EOF, EQ, EQ2, ERROR, EXPRESSION-LIST, IDENT, IDENTIFIER, INT-NUMBER, L-PAREN, LET-KW, LITERAL, MINUS, NAME, PREFIX-EXPR, R-CURLY, R-PAREN, RESET-KW, SEMICOLON, SOURCE-FILE, TOMBSTONE}
 use Rattle.kinds.specs.Membership.{bit, oneOf}
 use Rattle.input.specs.Input.{seen}
 use Rattle.input.specs.Glue.{partsOf, standsAt}
 use Rattle.event.specs.declared.Event.the-variants.{Start, Finish, Token, Error}
-use Rattle.event.specs.Event.{eventWords, decode, eventsOf, leftOver, wordsOf, encode, tombstone}
+use Rattle.event.specs.Event.{eventWords, errorOf, decode, eventsOf, leftOver, wordsOf, encode, tombstone}
 use Rattle.runtime.specs.State.{looked, halted, eventAt, pushEvent, consume, doBump, named, linked, dropped}
 use Rattle.runtime.specs.Acts.{step, _>>=_, run, atTs, bump, bumpAny, expect, errRecover, must, goesOn, iter, left}
 use Rattle.grammar.specs.Grammar.{failIfAt, failUnlessAt, nameR, separator, delimitedRound, delimited, scalarReturn, optRetType}
@@ -19,7 +19,7 @@ use Rattle.grammar.specs.Expressions.{typeName, marker, lacksExpr, assigned, no
 use Rattle.grammar.specs.Items.{break, continue, end, filepathR, defcalgrammar, include, skipToSemicolon, version, versionString, ioType, qubitEnd, declares, switchCaseStmtRound, switchCaseStmt, ifStmt, whileStmt, forRest, forStmt, qubitDeclarationStmt, resetStmt, gateDefinition, signature, defcal, classicalDeclarationStmt, ioDeclarationStmt, defStmt, cal, barrier, delayStmt, aliasStmt, optItem, unmatched, afterItem, item, sourceFileContentsRound, sourceFileContents}
 use Rattle.grammar.specs.Entry.{counted, sourceFile, oneItem, oneExpression}
 use Rattle.records.specs.declared.Step.{Step}
-use Rattle.records.specs.declared.Step.the-variants.{Enter as enter, Leave as leave, Token as taken, Error as failed}
+use Rattle.records.specs.declared.Step.the-variants.{Enter as enter, Leave as leave, Token as taken, Error as failed, Expected as lacked}
 use Rattle.lists.specs.Answer as A
 use Rattle.records.specs.Record.{bytes}
 use Rattle.lists.specs.Check.{next, scan, checked}
@@ -64,9 +64,14 @@ rows =
     ∷ parse (item0 [] 1) (ends (says 0 0 0 4) (replicate 2 0)) []
     ∷ parse (item0 [] 0) (ends (refuses 5 0) []) []
     -- P5: `}`
-    ∷ parse (item0 (R-CURLY ∷ []) 6) (ends (says 0 1 4 4) (wordsOf (Start ERROR 0 ∷ Error 32 0 ∷ Token R-CURLY 1 ∷ Finish ∷ []) ++ replicate 4 0)) (enter ERROR ∷ failed 32 0 ∷ taken R-CURLY 1 ∷ leave ∷ [])
+    ∷ parse (item0 (R-CURLY ∷ []) 6) (ends (says 0 1 4 4) (wordsOf (Start ERROR 0 ∷ Error 32 0 0 ∷ Token R-CURLY 1 ∷ Finish ∷ []) ++ replicate 4 0)) (enter ERROR ∷ failed 32 0 ∷ taken R-CURLY 1 ∷ leave ∷ [])
     -- P6: `reset ;`
-    ∷ parse (item0 (RESET-KW ∷ SEMICOLON ∷ []) 11) (ends (says 0 2 7 7) (wordsOf (Start TOMBSTONE 0 ∷ Token RESET-KW 1 ∷ Error 34 0 ∷ Start ERROR 0 ∷ Error 31 0 ∷ Token SEMICOLON 1 ∷ Finish ∷ []) ++ replicate 8 0)) (taken RESET-KW 1 ∷ failed 34 0 ∷ enter ERROR ∷ failed 31 0 ∷ taken SEMICOLON 1 ∷ leave ∷ [])
+    ∷ parse (item0 (RESET-KW ∷ SEMICOLON ∷ []) 11) (ends (says 0 2 7 7) (wordsOf (Start TOMBSTONE 0 ∷ Token RESET-KW 1 ∷ Error 34 0 0 ∷ Start ERROR 0 ∷ Error 31 0 0 ∷ Token SEMICOLON 1 ∷ Finish ∷ []) ++ replicate 8 0)) (taken RESET-KW 1 ∷ failed 34 0 ∷ enter ERROR ∷ failed 31 0 ∷ taken SEMICOLON 1 ∷ leave ∷ [])
+    -- `break` alone: what was found is the end, and its step file says so
+    ∷ parse (item0 (BREAK-KW ∷ []) 4) (ends (says 0 1 4 3) (wordsOf (Start BREAK-STMT 0 ∷ Token BREAK-KW 1 ∷ []) ++ 262145 ∷ 65539 ∷ wordsOf (Finish ∷ []))) (enter BREAK-STMT ∷ taken BREAK-KW 1 ∷ lacked SEMICOLON EOF ∷ leave ∷ [])
+    ∷ list (lists.row (wordsOf (Start BREAK-STMT 0 ∷ Token BREAK-KW 1 ∷ Error 1 SEMICOLON EOF ∷ Finish ∷ [])) 27 (A.says 0 27) (enter BREAK-STMT ∷ taken BREAK-KW 1 ∷ lacked SEMICOLON EOF ∷ leave ∷ []) (2 ∷ 0 ∷ 1 ∷ 0 ∷ 144 ∷ 0 ∷ 3 ∷ 0 ∷ 3 ∷ 0 ∷ 79 ∷ 0 ∷ 1 ∷ 6 ∷ 0 ∷ 5 ∷ 0 ∷ 1 ∷ 0 ∷ 3 ∷ 0 ∷ 1 ∷ 0 ∷ 0 ∷ 0 ∷ 2 ∷ 0 ∷ []))
+    -- `f(1 2)`: at its second argument a comma was expected
+    ∷ parse (expression 0 (IDENT ∷ L-PAREN ∷ INT-NUMBER ∷ INT-NUMBER ∷ R-PAREN ∷ []) 0 21) (ends (says 0 5 21 26) (wordsOf (Start TOMBSTONE 4 ∷ Start IDENTIFIER 3 ∷ Token IDENT 1 ∷ Finish ∷ Start CALL-EXPR 0 ∷ Start ARG-LIST 0 ∷ Start EXPRESSION-LIST 0 ∷ Token L-PAREN 1 ∷ Start TOMBSTONE 1 ∷ Start LITERAL 0 ∷ Token INT-NUMBER 1 ∷ Finish ∷ []) ++ 262145 ∷ 6488068 ∷ wordsOf (Start TOMBSTONE 1 ∷ Start LITERAL 0 ∷ Token INT-NUMBER 1 ∷ Finish ∷ Token R-PAREN 1 ∷ Finish ∷ Finish ∷ Finish ∷ []))) (enter CALL-EXPR ∷ enter IDENTIFIER ∷ taken IDENT 1 ∷ leave ∷ enter ARG-LIST ∷ enter EXPRESSION-LIST ∷ taken L-PAREN 1 ∷ enter LITERAL ∷ taken INT-NUMBER 1 ∷ leave ∷ lacked COMMA INT-NUMBER ∷ enter LITERAL ∷ taken INT-NUMBER 1 ∷ leave ∷ taken R-PAREN 1 ∷ leave ∷ leave ∷ leave ∷ [])
     -- P7 to P11
     ∷ list (lists.row (wordsOf (Finish ∷ [])) 9 (A.says 9 0) [] [])
     ∷ list (lists.row (wordsOf (tombstone ∷ [])) 9 (A.says 0 0) [] [])
@@ -89,5 +94,5 @@ rows =
     ∷ []
 
 table : map got rows ≡ map wanted rows
-unfolding bit oneOf seen partsOf standsAt decode eventsOf leftOver looked halted eventAt pushEvent consume doBump named linked dropped step _>>=_ run atTs bump bumpAny expect errRecover must goesOn iter left failIfAt failUnlessAt nameR separator delimitedRound delimited scalarReturn optRetType tableOf currentOp paramUntyped listOpen atListEnd listGoes paramAhead listNext listEmpty listEnd paramTyped argGateCallQubit foundParam paramListOpenqasmRound paramListOpenqasm paramListGateParams paramListGateQubits argListGateCallQubits paramListDefParams paramListDefcalParams paramListDefcalQubits expressionList identifier hardwareQubit timing literal invModifier noArgument tupleComma tupleNext tupleKind tupleEnd firstSemicolon arrayNext arrayEnd castExpr gphaseCallExpr gateCallExpr modifier modifiedGateCallExprRound modifiedGateCallExpr measureExpression tupleExprRound tupleExpr arrayExprRound arrayExpr blockExpr tryBlockExpr returnExpr boxExpr atomOf atomExpr typeName marker lacksExpr assigned noAssignment closeOp castAhead stmtLacksExpr noSemicolon stmtEnd literalDesignator arrayBase unindexed argsEnd varName rangeExpr exprOrRangeExpr letStmt exprBlockContentsRound exprBlockContents designator nonArrayTypeSpec arrayTypeSpecRound arrayTypeSpec typeSpec complexTypeSpec qubitTypeSpec setExpression indexOperator indexExpr indexedIdentifierRound indexedIdentifier indexed callArgList callExpr postfixExprRound postfixExpr lhs exprBpRound exprBp noItem stmt break continue end filepathR defcalgrammar include skipToSemicolon version versionString ioType qubitEnd declares switchCaseStmtRound switchCaseStmt ifStmt whileStmt forRest forStmt qubitDeclarationStmt resetStmt gateDefinition signature defcal classicalDeclarationStmt ioDeclarationStmt defStmt cal barrier delayStmt aliasStmt optItem unmatched afterItem item sourceFileContentsRound sourceFileContents counted sourceFile oneItem oneExpression rows encode wordsOf next scan checked follow entered turn turns bytes resolved firstFault settled parsed
+unfolding bit oneOf seen partsOf standsAt errorOf decode eventsOf leftOver looked halted eventAt pushEvent consume doBump named linked dropped step _>>=_ run atTs bump bumpAny expect errRecover must goesOn iter left failIfAt failUnlessAt nameR separator delimitedRound delimited scalarReturn optRetType tableOf currentOp paramUntyped listOpen atListEnd listGoes paramAhead listNext listEmpty listEnd paramTyped argGateCallQubit foundParam paramListOpenqasmRound paramListOpenqasm paramListGateParams paramListGateQubits argListGateCallQubits paramListDefParams paramListDefcalParams paramListDefcalQubits expressionList identifier hardwareQubit timing literal invModifier noArgument tupleComma tupleNext tupleKind tupleEnd firstSemicolon arrayNext arrayEnd castExpr gphaseCallExpr gateCallExpr modifier modifiedGateCallExprRound modifiedGateCallExpr measureExpression tupleExprRound tupleExpr arrayExprRound arrayExpr blockExpr tryBlockExpr returnExpr boxExpr atomOf atomExpr typeName marker lacksExpr assigned noAssignment closeOp castAhead stmtLacksExpr noSemicolon stmtEnd literalDesignator arrayBase unindexed argsEnd varName rangeExpr exprOrRangeExpr letStmt exprBlockContentsRound exprBlockContents designator nonArrayTypeSpec arrayTypeSpecRound arrayTypeSpec typeSpec complexTypeSpec qubitTypeSpec setExpression indexOperator indexExpr indexedIdentifierRound indexedIdentifier indexed callArgList callExpr postfixExprRound postfixExpr lhs exprBpRound exprBp noItem stmt break continue end filepathR defcalgrammar include skipToSemicolon version versionString ioType qubitEnd declares switchCaseStmtRound switchCaseStmt ifStmt whileStmt forRest forStmt qubitDeclarationStmt resetStmt gateDefinition signature defcal classicalDeclarationStmt ioDeclarationStmt defStmt cal barrier delayStmt aliasStmt optItem unmatched afterItem item sourceFileContentsRound sourceFileContents counted sourceFile oneItem oneExpression rows encode wordsOf next scan checked follow entered turn turns bytes resolved firstFault settled parsed
 table = refl

@@ -12,7 +12,7 @@ use Rattle.input.specs.Input.{Env, env}
 use Rattle.input.specs.Glue.{partsOf, rawCount}
 use Rattle.runtime.specs.Cover.{events}
 use Rattle.runtime.specs.State.{St, view, new, mostLooks, stopNumber, added, eventAt, enough}
-use Rattle.runtime.specs.Acts.{Act, Act.looks, Act.peeks, Act.eats, Act.takes, Act.starts, Act.completes, Act.abandons, Act.precedes, Act.extends, Act.fails, Act.stops, Act.asks, sees, step, Acts, Acts.done, Acts.act}
+use Rattle.runtime.specs.Acts.{Act, Act.looks, Act.peeks, Act.eats, Act.takes, Act.starts, Act.completes, Act.abandons, Act.precedes, Act.extends, Act.fails, Act.lacks, Act.stops, Act.asks, sees, step, Acts, Acts.done, Acts.act}
 use Rattle.parse.specs.Parse.{Lent, Outcome, ends, says, refuses, badMode, tooMany, fewJoints, firstFault, notPermitted, actsOf, ran, leaves}
 
 -- 5: one more event than the room holds; else n
@@ -40,6 +40,7 @@ meets e (abandons m) s = cond (eqb (m + 1) (s .p .len)) (cond (isBare (eventAt s
 meets e (precedes m) s = adding s (marked (added (Start TOMBSTONE 0) s) m 0)
 meets e (extends to m) s = marked s m 0
 meets e (fails code arg) s = adding s 0
+meets e (lacks k) s = adding s 0
 meets e (stops why) s = stopNumber why
 meets e asks s = 0
 

@@ -18,7 +18,7 @@ ghost use lib.ListN.{length};
 // The most words of a room or a list, and bytes of a step room, that a case has.
 pub const WORDS: usize = 131080;
 
-pub const BYTES: usize = 524296;
+pub const BYTES: usize = 655368;
 
 // The first words of a line, by their number: a parse from one of the three entries, the check, resolution, and a line that is copied.
 pub fn head(line: &[u8]) -> Found
@@ -108,7 +108,7 @@ pub fn read_parse(line: &[u8], from: usize, kinds: &mut [u16], joints: &mut [u64
 // Reads `ROOM WORDS` from a place on.
 pub fn read_resolve(line: &[u8], from: usize, words: &mut [u32]) -> Resolve
     requires { ⌜ from ≤ length (now line) ⌝ }
-    ensures { λ r. ⌜ (r .room ≤ 524296) × (r .list ≤ length (now (line .entry))) × (r .words ≤ length (now (words .exit))) ⌝ }
+    ensures { λ r. ⌜ (r .room ≤ 655368) × (r .list ≤ length (now (line .entry))) × (r .words ≤ length (now (words .exit))) ⌝ }
 {
     let size = field(line, from);
     let l = words_at(line, size.next, words);

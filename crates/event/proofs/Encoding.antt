@@ -1,5 +1,5 @@
 -- `encode` and `decode` are each other's inverse, and what words say by their tag. Assumes nothing.
-use Prim.Native.Nat.{ℕ, _+_, _/_, _%_, _<_}
+use Prim.Native.Nat.{ℕ, _+_, _*_, _/_, _%_, _<_}
 use native.Mathlib.Omega.{arith}
 use mathlib.Core.Path.{_≡_, refl, sym, ap, ap₂, _∙_}
 use mathlib.Core.Bool.{Bool, true, false, cond}
@@ -8,7 +8,7 @@ use borrow.Author.Tests.{eqb-true, eqb-false, leb-true, ltb-true, eq-eqb, ne-eqb
 use Rattle.laws.proofs.Tests.{by-test, apart}
 use Rattle.event.specs.declared.Event.{Event}
 use Rattle.event.specs.declared.Event.the-variants.{Start, Finish, Token, Error, NoEvent}
-use Rattle.event.specs.Event.{words, encode, decode, Sound, isStart, isBare, withKind, withDistance, distance}
+use Rattle.event.specs.Event.{words, encode, errorOf, decode, Sound, isStart, isBare, withKind, withDistance, distance}
 
 -- the event that the words of an event say
 abbrev pub again : Event → Event
@@ -16,7 +16,7 @@ again e = decode (encode e .first) (encode e .second)
 
 -- the words of a sound event say that event
 pub decode-encode : (e : Event) → Sound e → again e ≡ e
-unfolding encode decode
+unfolding encode decode errorOf
 decode-encode (Start k d) h =
     let t : (65536 + k) / 65536 ≡ 1 = omega arith in
     let m : (65536 + k) % 65536 ≡ k = omega arith in
@@ -26,10 +26,23 @@ decode-encode (Token k n) h =
     let t : (196608 + k) / 65536 ≡ 3 = omega arith in
     let m : (196608 + k) % 65536 ≡ k = omega arith in
     rw (t, m, ne-eqb n 0 (λ z. omega arith), le-leb n 3 (h .2))
-decode-encode (Error c x) h =
+decode-encode (Error c x f) h =
     let t : (262144 + c) / 65536 ≡ 4 = omega arith in
     let m : (262144 + c) % 65536 ≡ c = omega arith in
-    rw (t, m, lt-ltb x 65536 (h .1))
+    rw (t, m) (by (eqb c 1) refl)
+  where
+    s : ℕ
+    s = x + 65536 * f
+
+    by : (t : Bool) → eqb c 1 ≡ t → cond t (cond (ltb s 4294967296) (Error c (s % 65536) (s / 65536)) (NoEvent (262144 + c) s)) (cond (ltb s 65536) (Error c s 0) (NoEvent (262144 + c) s)) ≡ Error c x f
+    by true t =
+        let r : s % 65536 ≡ x = omega arith in
+        let q : s / 65536 ≡ f = omega arith in
+        rw (lt-ltb s 4294967296 (omega arith), r, q)
+    by false t =
+        let z : f ≡ 0 = h .3 (eqb-false c 1 t) in
+        let q : s ≡ x = omega arith in
+        rw (lt-ltb s 65536 (omega arith), q, z)
 decode-encode (NoEvent a b) h = absurd h
 
 -- Any words are those of what they say, and that is sound, or no event.
@@ -41,7 +54,7 @@ unfolding Back encode
 nothing a b = (refl, λ n. absurd (n refl))
 
 back : (a b : ℕ) → Back a b (decode a b)
-unfolding Back decode encode
+unfolding Back decode errorOf encode
 back a b =
     by-test (Back a b) (eqb (a / 65536) 1) _ _ start λ _.
     by-test (Back a b) (eqb (a / 65536) 2) _ _ finish λ _.
@@ -65,9 +78,15 @@ back a b =
         by-test (Back a b) (eqb b 0) _ _ (λ _. nothing a b)
         (λ z. by-test (Back a b) (leb b 3) _ _ (λ l. (pair (omega (arith, eqb-true (a / 65536) 3 t)) refl, λ n. (omega arith, omega (arith, eqb-false b 0 z), leb-true b 3 l))) (λ _. nothing a b))
 
-    error : eqb (a / 65536) 4 ≡ true → Back a b (cond (ltb b 65536) (Error (a % 65536) b) (NoEvent a b))
+    error : eqb (a / 65536) 4 ≡ true → Back a b (errorOf (a % 65536) b (NoEvent a b))
     error t =
-        by-test (Back a b) (ltb b 65536) _ _ (λ l. (pair (omega (arith, eqb-true (a / 65536) 4 t)) refl, λ n. (omega arith, ltb-true b 65536 l))) (λ _. nothing a b)
+        by-test (Back a b) (eqb (a % 65536) 1) _ _
+        (λ o. by-test (Back a b) (ltb b 4294967296) _ _
+        (λ l. let g : b < 4294967296 = ltb-true b 4294967296 l in (pair (omega (arith, eqb-true (a / 65536) 4 t)) (omega arith), λ n. (omega arith, omega arith, omega arith, λ n. absurd (n (eqb-true (a % 65536) 1 o)))))
+        (λ _. nothing a b))
+        (λ o. by-test (Back a b) (ltb b 65536) _ _
+        (λ l. (pair (omega (arith, eqb-true (a / 65536) 4 t)) (omega arith), λ n. (omega arith, ltb-true b 65536 l, omega arith, λ _. refl)))
+        (λ _. nothing a b))
 
 pub encode-decode : (a b : ℕ) → encode (decode a b) ≡ words a b
 unfolding Back
@@ -87,7 +106,7 @@ abbrev Still : Event → Type 0
 Still e = (isStart e ≡ false) × (distance e ≡ 0)
 
 pub say-other : (a b : ℕ) → (a / 65536 ≡ 1 → ⊥) → (isStart (decode a b) ≡ false) × (distance (decode a b) ≡ 0)
-unfolding decode
+unfolding decode errorOf
 say-other a b n =
     rw (ne-eqb (a / 65536) 1 n)
     (by-test Still (eqb (a / 65536) 2) _ _
@@ -95,7 +114,10 @@ say-other a b n =
     λ _. by-test Still (eqb (a / 65536) 3) _ _
     (λ _. by-test Still (eqb b 0) _ _ (λ _. (refl, refl)) (λ _. by-test Still (leb b 3) _ _ (λ _. (refl, refl)) (λ _. (refl, refl))))
     λ _. by-test Still (eqb (a / 65536) 4) _ _
-    (λ _. by-test Still (ltb b 65536) _ _ (λ _. (refl, refl)) (λ _. (refl, refl))) (λ _. (refl, refl)))
+    (λ _. by-test Still (eqb (a % 65536) 1) _ _
+    (λ _. by-test Still (ltb b 4294967296) _ _ (λ _. (refl, refl)) (λ _. (refl, refl)))
+    (λ _. by-test Still (ltb b 65536) _ _ (λ _. (refl, refl)) (λ _. (refl, refl))))
+    (λ _. (refl, refl)))
 
 pub start-tag : (a b : ℕ) → isStart (decode a b) ≡ true → a / 65536 ≡ 1
 start-tag a b h = by (eqb (a / 65536) 1) refl
@@ -123,12 +145,20 @@ bare-other a b n = by (eqb (a / 65536) 1) refl
     none-bare (Start k d) h = apart (sym h)
     none-bare Finish h = refl
     none-bare (Token k c) h = refl
-    none-bare (Error c x) h = refl
+    none-bare (Error c x f) h = refl
     none-bare (NoEvent x y) h = refl
 
     by : (t : Bool) → eqb (a / 65536) 1 ≡ t → false ≡ isBare (decode a b)
     by true e = rw (say-start a b (eqb-true (a / 65536) 1 e), ne-eqb (a % 65536) 0 (λ z. n (omega (arith, eqb-true (a / 65536) 1 e))))
     by false e = none-bare (decode a b) (say-other a b (eqb-false (a / 65536) 1 e) .0)
+
+-- a bare start is a start
+pub bare-start : (e : Event) → isBare e ≡ true → isStart e ≡ true
+bare-start (Start k d) h = refl
+bare-start Finish h = h
+bare-start (Token k n) h = h
+bare-start (Error c x f) h = h
+bare-start (NoEvent a b) h = h
 
 -- A start that words say is sound, and stays so with another kind that fits or another distance.
 pub start-sound : (a b : ℕ) → isStart (decode a b) ≡ true → Sound (decode a b)
@@ -138,12 +168,12 @@ pub kind-sound : (k : ℕ) (e : Event) → k < 65536 → isStart e ≡ true → 
 kind-sound k (Start j d) l h = l
 kind-sound k Finish l h = apart h
 kind-sound k (Token j n) l h = apart h
-kind-sound k (Error c x) l h = apart h
+kind-sound k (Error c x f) l h = apart h
 kind-sound k (NoEvent a b) l h = apart h
 
 pub distance-sound : (d : ℕ) (e : Event) → Sound e → Sound (withDistance d e)
 distance-sound d (Start k c) h = h
 distance-sound d Finish h = h
 distance-sound d (Token k n) h = h
-distance-sound d (Error c x) h = h
+distance-sound d (Error c x f) h = h
 distance-sound d (NoEvent a b) h = h

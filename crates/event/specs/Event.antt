@@ -1,5 +1,6 @@
 -- An event and its words (docs/RULES.md, section 2), and a room of them. Assumes nothing: these are definitions.
 use Prim.Native.Nat.{ℕ, _+_, _*_, _/_, _%_, _≤_, _<_, min}
+use mathlib.Core.Path.{_≡_}
 use mathlib.Core.Bool.{Bool, true, false, cond}
 use mathlib.Core.List.{List, [], _∷_}
 use lib.Dec.{eqb, leb, ltb}
@@ -23,8 +24,15 @@ unfoldable pub encode : Event → Words
 encode (Start k d) = words (65536 + k) d
 encode Finish = words 131072 0
 encode (Token k n) = words (196608 + k) n
-encode (Error c x) = words (262144 + c) x
+encode (Error c x f) = words (262144 + c) (x + 65536 * f)
 encode (NoEvent a b) = words a b
+
+-- An error, by its code and second word: "expected KIND", which is code 1, has there the kind expected and 65,536 times the kind found,
+-- in any word of 32 bits; another code has an argument of 16 bits, and found nothing. What else stands there says x.
+unfoldable pub errorOf : ℕ → ℕ → Event → Event
+errorOf c b x =
+    cond (eqb c 1) (cond (ltb b 4294967296) (Error c (b % 65536) (b / 65536)) x)
+    (cond (ltb b 65536) (Error c b 0) x)
 
 -- The event that words say. `encode-decode` and `decode-encode` (proofs/Encoding) hold it against `encode`.
 unfoldable pub decode : ℕ → ℕ → Event
@@ -32,14 +40,14 @@ decode a b =
     cond (eqb (a / 65536) 1) (Start (a % 65536) b)
     (cond (eqb (a / 65536) 2) (cond (eqb (a % 65536) 0) (cond (eqb b 0) Finish (NoEvent a b)) (NoEvent a b))
     (cond (eqb (a / 65536) 3) (cond (eqb b 0) (NoEvent a b) (cond (leb b 3) (Token (a % 65536) b) (NoEvent a b)))
-    (cond (eqb (a / 65536) 4) (cond (ltb b 65536) (Error (a % 65536) b) (NoEvent a b)) (NoEvent a b))))
+    (cond (eqb (a / 65536) 4) (errorOf (a % 65536) b (NoEvent a b)) (NoEvent a b))))
 
 -- an event whose numbers are in their ranges
 abbrev pub Sound : Event → Type 0
 Sound (Start k d) = k < 65536
 Sound Finish = Unit {0}
 Sound (Token k n) = (k < 65536) × (1 ≤ n) × (n ≤ 3)
-Sound (Error c x) = (c < 65536) × (x < 65536)
+Sound (Error c x f) = (c < 65536) × (x < 65536) × (f < 65536) × ((c ≡ 1 → ⊥) → f ≡ 0)
 Sound (NoEvent a b) = ⊥
 
 -- a room's whole events; the word of an odd room that is in no event; and the words of events
@@ -77,21 +85,21 @@ abbrev pub isStart : Event → Bool
 isStart (Start k d) = true
 isStart Finish = false
 isStart (Token k n) = false
-isStart (Error c x) = false
+isStart (Error c x f) = false
 isStart (NoEvent a b) = false
 
 abbrev pub isBare : Event → Bool
 isBare (Start k d) = cond (eqb k 0) (eqb d 0) false
 isBare Finish = false
 isBare (Token k n) = false
-isBare (Error c x) = false
+isBare (Error c x f) = false
 isBare (NoEvent a b) = false
 
 abbrev pub isToken : Event → Bool
 isToken (Start k d) = false
 isToken Finish = false
 isToken (Token k n) = true
-isToken (Error c x) = false
+isToken (Error c x f) = false
 isToken (NoEvent a b) = false
 
 -- the distance to the forward parent, 0 for none,
@@ -99,7 +107,7 @@ abbrev pub distance : Event → ℕ
 distance (Start k d) = d
 distance Finish = 0
 distance (Token k n) = 0
-distance (Error c x) = 0
+distance (Error c x f) = 0
 distance (NoEvent a b) = 0
 
 -- and a start with another kind, or another distance
@@ -107,12 +115,12 @@ abbrev pub withKind : ℕ → Event → Event
 withKind j (Start k d) = Start j d
 withKind j Finish = Finish
 withKind j (Token k n) = Token k n
-withKind j (Error c x) = Error c x
+withKind j (Error c x f) = Error c x f
 withKind j (NoEvent a b) = NoEvent a b
 
 abbrev pub withDistance : ℕ → Event → Event
 withDistance j (Start k d) = Start k j
 withDistance j Finish = Finish
 withDistance j (Token k n) = Token k n
-withDistance j (Error c x) = Error c x
+withDistance j (Error c x f) = Error c x f
 withDistance j (NoEvent a b) = NoEvent a b

@@ -22,12 +22,13 @@ pub const TOKEN: u32 = 196608;
 
 pub const ERROR: u32 = 262144;
 
-// An event: its kind and the distance to its forward parent, 0 for none; a kind and the raw count; a code and its argument.
+// An event: its kind and the distance to its forward parent, 0 for none; a kind and the raw count; a code, its argument and the kind found,
+// which only "expected KIND" has: its code is 1.
 pub enum Event {
     Start(u16, u32),
     Finish,
     Token(u16, u8),
-    Error(u16, u16),
+    Error(u16, u16, u16),
     // words that say no event
     NoEvent(u32, u32),
 }
@@ -55,9 +56,9 @@ pub fn encode(e: Event) -> Words
             first: TOKEN + k as u32,
             second: n as u32,
         },
-        Event::Error(c, x) => Words {
+        Event::Error(c, x, f) => Words {
             first: ERROR + c as u32,
-            second: x as u32,
+            second: x as u32 + 65536 * f as u32,
         },
         Event::NoEvent(a, b) => Words {
             first: a,
@@ -93,8 +94,11 @@ pub fn decode(a: u32, b: u32) -> Event
         return Event::NoEvent(a, b);
     }
     if t == 4 {
+        if k == 1 {
+            return Event::Error(k, (b % 65536) as u16, (b / 65536) as u16);
+        }
         if b < 65536 {
-            return Event::Error(k, b as u16);
+            return Event::Error(k, b as u16, 0);
         }
     }
     Event::NoEvent(a, b)
@@ -108,7 +112,7 @@ pub fn distance(e: Event) -> u32
         Event::Start(_, d) => d,
         Event::Finish => 0,
         Event::Token(_, _) => 0,
-        Event::Error(_, _) => 0,
+        Event::Error(_, _, _) => 0,
         Event::NoEvent(_, _) => 0,
     }
 }

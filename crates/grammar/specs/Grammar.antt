@@ -7,8 +7,8 @@ use lib.Dec.{eqb}
 use Rattle.kinds.specs.Membership.{oneOf}
 use Rattle.kinds.specs.Kinds.{THIN-ARROW, IDENT, HARDWAREIDENT, HARDWARE-QUBIT, NAME, RETURN-SIGNATURE, BLOCK-EXPR}
 use Rattle.kinds.specs.Sets.{EMPTY, SCALAR-TYPES, TYPES}
-use Rattle.kinds.specs.Messages.{EXPECTED, EXPECTED-SCALAR-RETURN-TYPE-AFTER-ARROW, EXPECTED-A-NAME}
-use Rattle.runtime.specs.Acts.{Acts, Acts.done, _>>=_, _>>_, at, atTs, current, bump, expect, start, complete, abandon, error, errRecover, goesOn, Turn, Turn.more, Turn.last, repeats}
+use Rattle.kinds.specs.Messages.{EXPECTED-SCALAR-RETURN-TYPE-AFTER-ARROW, EXPECTED-A-NAME}
+use Rattle.runtime.specs.Acts.{Acts, Acts.done, _>>=_, _>>_, at, atTs, current, bump, expect, start, complete, abandon, error, errorExpected, errRecover, goesOn, Turn, Turn.more, Turn.last, repeats}
 use Rattle.grammar.specs.declared.Mark.{Mark}
 use Rattle.grammar.specs.declared.Got.{Got}
 use Rattle.grammar.specs.declared.Got.the-variants.{Is, Nothing}
@@ -100,7 +100,7 @@ separator delim first = do
     done true) (do
       b ← atTs first
       cond b (do
-        error EXPECTED delim
+        errorExpected delim
         done true) (done false))
 
 -- `.is_some()`

@@ -204,7 +204,7 @@ pub fn separator(
     let t = p.at_ts(kinds, joints, first);
     let p2 = t.p;
     if t.yes {
-        let p3 = p2.error(room, say::EXPECTED, delim);
+        let p3 = p2.error_expected(kinds, joints, room, delim);
         return Told { p: p3, yes: true };
     }
     Told { p: p2, yes: false }

@@ -102,17 +102,6 @@ pub fn stands_at(kinds: &[u16], joints: &[u64], refused: u32, i: usize, parts: P
     }
 }
 
-// How many tokens the parts are.
-pub fn raw_count(parts: Parts) -> usize
-    ensures { λ r. ⌜ r ≡ rawCount parts ⌝ }
-{
-    match parts {
-        Parts::One(_) => 1,
-        Parts::Two(_, _) => 2,
-        Parts::Three(_, _, _) => 3,
-    }
-}
-
 // The kinds below 64 that are one token, a bit for each. Above them no kind is glued.
 const PLAIN: u64 = 0xff80002947fffffb;
 
@@ -126,14 +115,17 @@ pub fn is_plain(kind: u16) -> bool
     (PLAIN >> kind) % 2 == 1
 }
 
-// How many tokens a kind is made of.
+// How many tokens a kind is made of, told by the kind: `parts_of` has one caller, and is compiled into it (docs/SPEED.md).
 pub fn raw_of(kind: u16) -> usize
     ensures { λ r. ⌜ r ≡ rawCount (partsOf kind) ⌝ }
 {
     if is_plain(kind) {
         return 1;
     }
-    raw_count(parts_of(kind))
+    match kind {
+        k::DOT3 | k::DOT2EQ | k::SHLEQ | k::SHREQ => 3,
+        _ => 2,
+    }
 }
 
 // What a kind is made of: the arms of `nth_at`, in its order.

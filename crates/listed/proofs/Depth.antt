@@ -6,11 +6,14 @@ use native.Mathlib.Nat.{add-zero}
 use mathlib.Core.Path.{_≡_, refl, _∙_}
 use mathlib.Core.Bool.{true}
 use mathlib.Core.List.{List, [], _∷_, _++_, append-assoc, map-append}
+use lib.Dec.{eqb}
 use lib.ListN.{length}
 use borrow.Author.Tests.{ne-eqb}
 use Rattle.event.specs.declared.Event.{Event}
 use Rattle.event.specs.declared.Event.the-variants.{Start, Finish, Token, Error, NoEvent}
+use Rattle.laws.proofs.Tests.{by-test}
 use Rattle.records.specs.declared.Step.{Step}
+use Rattle.records.specs.declared.Step.the-variants.{Error as error, Expected as expected}
 use Rattle.lists.specs.Answer.{says}
 use Rattle.lists.specs.Check.{lands, next, onNext, scan}
 use Rattle.own.specs.Own.{enters}
@@ -50,7 +53,7 @@ keep (Start k d) es l i o m ih ll h =
 keep Finish es l i zero m ih ll h = absurd (omega arith)
 keep Finish es l i (suc o) m ih ll h = let z : suc o + m ≡ suc (o + m) = omega arith in rw z (ih o h)
 keep (Token k n) es l i o m ih ll h = ih o h
-keep (Error c x) es l i o m ih ll h = ih o h
+keep (Error c x f) es l i o m ih ll h = ih o h
 keep (NoEvent a b) es l i o m ih ll h = absurd (omega arith)
 
 visited : (p k f : ℕ) (es : List Event) (i o : ℕ)
@@ -71,7 +74,7 @@ scan-follow p (e ∷ es) zero i o h = rw add-zero h
 scan-follow p (Start k f ∷ es) (suc zero) i o h = visited p k f es i o (λ j q. scan-follow (suc p) es f j q) h
 scan-follow p (Finish ∷ es) (suc zero) i o h = rw add-zero h
 scan-follow p (Token k n ∷ es) (suc zero) i o h = rw add-zero h
-scan-follow p (Error c x ∷ es) (suc zero) i o h = rw add-zero h
+scan-follow p (Error c x f ∷ es) (suc zero) i o h = rw add-zero h
 scan-follow p (NoEvent a b ∷ es) (suc zero) i o h = rw add-zero h
 scan-follow p (e ∷ es) (suc (suc d)) i o h =
     keep e es (follow (suc p) es (suc d) .left) i o (count (follow (suc p) es (suc d) .parents)) (λ q. scan-follow (suc p) es (suc d) (suc i) q) (lands-follow (suc p) es (suc d)) h
@@ -90,7 +93,7 @@ closes-turn p (Start k d) es i o ss ih h =
 closes-turn p Finish es i zero ss ih h = absurd (omega arith)
 closes-turn p Finish es i (suc o) ss ih h = ih o h
 closes-turn p (Token k n) es i o ss ih h = ih o h
-closes-turn p (Error c x) es i o ss ih h = ih o h
+closes-turn p (Error c x f) es i o ss ih h = by-test (λ (s : Step). closes o (s ∷ ss) ≡ true) (eqb c 1) (expected x f) (error c x) (λ _. ih o h) (λ _. ih o h)
 closes-turn p (NoEvent a b) es i o ss ih h = absurd (omega arith)
 
 pub closes-turns : (n p : ℕ) (es : List Event) (i o : ℕ) → length es ≡ n → scan es i o .code ≡ 0 → closes o (stepsOf (turns n p es .steps)) ≡ true

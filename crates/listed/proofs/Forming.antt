@@ -46,7 +46,7 @@ abbrev pub Kept : Event → Type 0
 Kept (Start k d) = Sound (Start k d)
 Kept Finish = Unit {0}
 Kept (Token k n) = Sound (Token k n)
-Kept (Error c x) = Sound (Error c x)
+Kept (Error c x f) = Sound (Error c x f)
 Kept (NoEvent a b) = Unit {0}
 
 kept : (a b : ℕ) → Kept (decode a b)
@@ -56,7 +56,7 @@ kept a b = by (decode a b) refl
     by (Start k d) q = rw q at (decode-sound a b (λ z. let y : _≡_ {A = ℕ} 0 1 = cc in omega arith))
     by Finish q = tt
     by (Token k n) q = rw q at (decode-sound a b (λ z. let y : _≡_ {A = ℕ} 0 1 = cc in omega arith))
-    by (Error c x) q = rw q at (decode-sound a b (λ z. let y : _≡_ {A = ℕ} 0 1 = cc in omega arith))
+    by (Error c x f) q = rw q at (decode-sound a b (λ z. let y : _≡_ {A = ℕ} 0 1 = cc in omega arith))
     by (NoEvent x y) q = tt
 
 pub kept-at : (ws : List ℕ) (i : ℕ) → Kept (eventAt (eventsOf ws) i)
@@ -109,7 +109,7 @@ meets es i o h s c = by (eventAt es i) o refl c
     by Finish zero q c = off (below (omega (arith, opens Finish q, closes Finish q)))
     by Finish (suc o) q c = on o (right Finish q tt (λ n. absurd (n refl)) (omega (arith, opens Finish q, closes Finish q))) (omega (arith, opens Finish q, closes Finish q))
     by (Token k n) o q c = on o (right (Token k n) q (rw q at s) (λ n. absurd (n refl)) (omega (arith, opens (Token k n) q, closes (Token k n) q))) (omega (arith, opens (Token k n) q, closes (Token k n) q))
-    by (Error k x) o q c = on o (right (Error k x) q (rw q at s) (λ n. absurd (n refl)) (omega (arith, opens (Error k x) q, closes (Error k x) q))) (omega (arith, opens (Error k x) q, closes (Error k x) q))
+    by (Error k x f) o q c = on o (right (Error k x f) q (rw q at s) (λ n. absurd (n refl)) (omega (arith, opens (Error k x f) q, closes (Error k x f) q))) (omega (arith, opens (Error k x f) q, closes (Error k x f) q))
     by (NoEvent x y) o q c = off (no-event (rw q (λ n. n)))
 
 -- ---- what the scan comes to

@@ -11,7 +11,7 @@ use Rattle.event.specs.declared.Event.{Event}
 use Rattle.event.specs.declared.Event.the-variants.{Start, Finish, Token, Error, NoEvent}
 use Rattle.laws.proofs.Tests.{by-test}
 use Rattle.records.specs.declared.Step.{Step}
-use Rattle.records.specs.declared.Step.the-variants.{Enter as enter}
+use Rattle.records.specs.declared.Step.the-variants.{Enter as enter, Error as error, Expected as expected}
 use Rattle.own.specs.Own.{enters}
 use Rattle.turns.specs.Process.{Placed, placed, Parent, follow, entered, turn, turns, process}
 use Rattle.listed.specs.Shape.{isEnter, others, plain}
@@ -43,7 +43,7 @@ plain-follow p (e ∷ es) zero = refl
 plain-follow p (Start k f ∷ es) (suc zero) = plain-follow (suc p) es f
 plain-follow p (Finish ∷ es) (suc zero) = refl
 plain-follow p (Token k n ∷ es) (suc zero) = refl
-plain-follow p (Error c x ∷ es) (suc zero) = refl
+plain-follow p (Error c x f ∷ es) (suc zero) = refl
 plain-follow p (NoEvent a b ∷ es) (suc zero) = refl
 plain-follow p (e ∷ es) (suc (suc d)) = rw (plain-follow (suc p) es (suc d))
 
@@ -52,7 +52,7 @@ unfolding turn others plain
 plain-turn p (Start k d) es = rw others-entered (plain-follow (suc p) es d)
 plain-turn p Finish es = refl
 plain-turn p (Token k n) es = refl
-plain-turn p (Error c x) es = refl
+plain-turn p (Error c x f) es = by-test (λ (s : Step). others (placed p (s ∷ [])) ++ plain (suc p) es ≡ placed p (s ∷ []) ++ plain (suc p) es) (eqb c 1) (expected x f) (error c x) (λ _. refl) (λ _. refl)
 plain-turn p (NoEvent a b) es = refl
 
 plain-turns : (n p : ℕ) (es : List Event) → length es ≡ n → others (turns n p es .steps) ≡ plain p es

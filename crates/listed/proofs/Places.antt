@@ -11,9 +11,10 @@ use lib.ListN.{length, getD}
 use borrow.Author.Tests.{eq-eqb, ne-eqb, eqb-true, eqb-false}
 use Rattle.event.specs.declared.Event.{Event}
 use Rattle.event.specs.declared.Event.the-variants.{Start, Finish, Token, Error, NoEvent}
+use Rattle.laws.proofs.Tests.{by-test}
 use Rattle.records.specs.declared.Step.{Step}
-use Rattle.records.specs.declared.Step.the-variants.{Enter as enter, Leave as leave, Token as token, Error as error}
-use Rattle.own.specs.Own.{enters, own}
+use Rattle.records.specs.declared.Step.the-variants.{Enter as enter, Leave as leave, Token as token, Error as error, Expected as expected}
+use Rattle.own.specs.Own.{enters, reports, own}
 use Rattle.turns.specs.Process.{Placed, placed, Parent, follow, entered, turn, turns, process, stepsOf}
 use Rattle.listed.specs.Shape.{from, entersTombstone}
 use Rattle.events.proofs.Running.{length-turn}
@@ -48,7 +49,7 @@ from-behind i p (Start k f ∷ es) (suc zero) h =
     rw (from-append, from-behind i (suc p) es f (omega arith)) (from-elsewhere i p (enters k) (λ e. omega arith))
 from-behind i p (Finish ∷ es) (suc zero) h = refl
 from-behind i p (Token k n ∷ es) (suc zero) h = refl
-from-behind i p (Error c x ∷ es) (suc zero) h = refl
+from-behind i p (Error c x f ∷ es) (suc zero) h = refl
 from-behind i p (NoEvent a b ∷ es) (suc zero) h = refl
 from-behind i p (e ∷ es) (suc (suc d)) h = from-behind i (suc p) es (suc d) (omega arith)
 
@@ -89,7 +90,7 @@ asked-follow i p (Start k f ∷ es) (suc zero) = go (eqb p i) refl (asked-follow
     go false e ih = rw (e, from-append, from-elsewhere i p (enters k) (eqb-false p i e), append-nil) ih
 asked-follow i p (Finish ∷ es) (suc zero) = refl
 asked-follow i p (Token k n ∷ es) (suc zero) = refl
-asked-follow i p (Error c x ∷ es) (suc zero) = refl
+asked-follow i p (Error c x f ∷ es) (suc zero) = refl
 asked-follow i p (NoEvent a b ∷ es) (suc zero) = refl
 asked-follow i p (e ∷ es) (suc (suc d)) = go (eqb p i) refl (asked-follow i (suc p) es (suc d))
   where
@@ -111,7 +112,7 @@ turn-here p (Start k d) es =
     rw (from-append, from-behind p (suc p) es d l) (from-here p (enters k))
 turn-here p Finish es = from-here p (leave ∷ [])
 turn-here p (Token k n) es = from-here p (token k n ∷ [])
-turn-here p (Error c x) es = from-here p (error c x ∷ [])
+turn-here p (Error c x f) es = from-here p (reports c x f ∷ [])
 turn-here p (NoEvent a b) es = refl
 
 turn-elsewhere : (i p : ℕ) (e : Event) (es : List Event) → (p ≡ i → ⊥) → from i (turn p e es .steps) ++ asked i (suc p) (turn p e es .left) ≡ asked i (suc p) es
@@ -119,7 +120,7 @@ unfolding turn entered from
 turn-elsewhere i p (Start k d) es n = rw (from-append, from-elsewhere i p (enters k) n, append-nil) (asked-follow i (suc p) es d)
 turn-elsewhere i p Finish es n = rw (from-elsewhere i p (leave ∷ []) n)
 turn-elsewhere i p (Token k m) es n = rw (from-elsewhere i p (token k m ∷ []) n)
-turn-elsewhere i p (Error c x) es n = rw (from-elsewhere i p (error c x ∷ []) n)
+turn-elsewhere i p (Error c x f) es n = rw (from-elsewhere i p (reports c x f ∷ []) n)
 turn-elsewhere i p (NoEvent a b) es n = refl
 
 asked-turns : (i n p : ℕ) (es : List Event) → length es ≡ n → from i (turns n p es .steps) ≡ asked i p es
@@ -152,6 +153,7 @@ tombs-append (enter (suc k) ∷ r) s a b = tombs-append r s a b
 tombs-append (leave ∷ r) s a b = tombs-append r s a b
 tombs-append (token k n ∷ r) s a b = tombs-append r s a b
 tombs-append (error c x ∷ r) s a b = tombs-append r s a b
+tombs-append (expected k f ∷ r) s a b = tombs-append r s a b
 
 tombs-enters : (p k : ℕ) → entersTombstone (stepsOf (placed p (enters k))) ≡ false
 unfolding entersTombstone
@@ -168,7 +170,7 @@ unfolding turn entersTombstone
 tombs-turn p (Start k d) es = tombs-entered (record { place = p; kind = k } ∷ follow (suc p) es d .parents)
 tombs-turn p Finish es = refl
 tombs-turn p (Token k n) es = refl
-tombs-turn p (Error c x) es = refl
+tombs-turn p (Error c x f) es = by-test (λ (s : Step). entersTombstone (s ∷ []) ≡ false) (eqb c 1) (expected x f) (error c x) (λ _. refl) (λ _. refl)
 tombs-turn p (NoEvent a b) es = refl
 
 tombs-turns : (n p : ℕ) (es : List Event) → entersTombstone (stepsOf (turns n p es .steps)) ≡ false

@@ -1,15 +1,16 @@
 -- The resolution in the words of specs/Conditions: what it says and leaves, exactly when. Assumes nothing.
-use Prim.Native.Nat.{ℕ, zero, suc, _≤_, _<_}
+use Prim.Native.Nat.{ℕ, zero, suc, _+_, _*_, _≤_, _<_}
 use native.Mathlib.Omega.{arith}
 use mathlib.Core.Path.{_≡_, refl, sym, ap, _∙_}
-use mathlib.Core.Bool.{Bool, true, false}
+use mathlib.Core.Bool.{Bool, true, false, not, cond}
 use mathlib.Core.List.{List, [], _∷_}
-use lib.Dec.{ltb}
+use lib.Dec.{eqb, ltb}
 use lib.ListN.{length, replicate}
 use borrow.Author.Tests.{ne-eqb, ltb-true, ltb-false}
 use Rattle.event.specs.declared.Event.{Event}
 use Rattle.event.specs.declared.Event.the-variants.{Start, Finish, Token, Error, NoEvent}
-use Rattle.event.specs.Event.{eventsOf, wordsOf, tombstone}
+use Rattle.event.specs.Event.{eventsOf, wordsOf, tombstone, isToken}
+use Rattle.records.specs.declared.Step.the-variants.{Error as error, Expected as expected}
 use Rattle.records.specs.Record.{bytes, over}
 use Rattle.lists.specs.Answer.{Numbers, says}
 use Rattle.lists.specs.Check.{checked}
@@ -18,8 +19,8 @@ use Rattle.turns.specs.Process.{process, file}
 use Rattle.events.specs.Resolve.{Outcome, ends, resolved}
 use Rattle.events.proofs.Outcomes as O
 use Rattle.events.proofs.Passing.{process-need}
-use Rattle.listed.specs.WellFormed.{count}
-use Rattle.listed.specs.Conditions.{needed, Faulty, Refused, Refused.list, Refused.small, First, Checks, Checks.passes, Checks.fails, Resolves, Resolves.done, Resolves.refuses}
+use Rattle.listed.specs.WellFormed.{isNode, isFinish, count}
+use Rattle.listed.specs.Conditions.{isExpected, isError, needed, Faulty, Refused, Refused.list, Refused.small, First, Checks, Checks.passes, Checks.fails, Resolves, Resolves.done, Resolves.refuses}
 use Rattle.listed.proofs.Theorems.{passing-resolves}
 use Rattle.listed.proofs.Checking as C
 use Rattle.listed.proofs.Checking.{agree, faulty-number, faulty-once}
@@ -32,7 +33,13 @@ need-counted (Start zero d ∷ es) = omega (arith, need-counted es)
 need-counted (Start (suc k) d ∷ es) = rw (ne-eqb (suc k) 0 (λ z. omega arith)) (omega (arith, need-counted es))
 need-counted (Finish ∷ es) = omega (arith, need-counted es)
 need-counted (Token k n ∷ es) = omega (arith, need-counted es)
-need-counted (Error c x ∷ es) = omega (arith, need-counted es)
+need-counted (Error c x f ∷ es) = by (eqb c 1) (need-counted es)
+  where
+    by : (t : Bool) → need es ≡ needed es
+        → length (bytes (cond t (expected x f) (error c x) ∷ [])) + need es
+        ≡ 6 * (0 + count isNode es) + 4 * (0 + count isFinish es) + 7 * (0 + count isToken es) + 8 * (cond (not t) 1 0 + count isError es) + 10 * (cond t 1 0 + count isExpected es)
+    by true h = omega (arith, h)
+    by false h = omega (arith, h)
 need-counted (NoEvent a b ∷ es) = omega (arith, need-counted es)
 
 -- and the step file has as many

@@ -2,8 +2,9 @@
 -- of their own.
 use Prim.Native.Nat.{ℕ, _+_, _*_, _/_, _%_, _<_}
 use mathlib.Core.Path.{_≡_}
-use mathlib.Core.Bool.{Bool, true, false}
+use mathlib.Core.Bool.{Bool, false, not}
 use mathlib.Core.List.{List}
+use lib.Dec.{eqb}
 use lib.ListN.{length, replicate}
 use Rattle.event.specs.declared.Event.{Event}
 use Rattle.event.specs.declared.Event.the-variants.{Start, Finish, Token, Error, NoEvent}
@@ -14,16 +15,24 @@ use Rattle.turns.specs.Process.{process, file}
 use Rattle.events.specs.Resolve.{Outcome, ends}
 use Rattle.listed.specs.WellFormed.{isNode, isFinish, count, Fault}
 
+-- an error of code 1, which has what was found, and one of another code
+abbrev pub isExpected : Event → Bool
+isExpected (Start k d) = false
+isExpected Finish = false
+isExpected (Token k n) = false
+isExpected (Error c x f) = eqb c 1
+isExpected (NoEvent a b) = false
+
 abbrev pub isError : Event → Bool
 isError (Start k d) = false
 isError Finish = false
 isError (Token k n) = false
-isError (Error c x) = true
+isError (Error c x f) = not (eqb c 1)
 isError (NoEvent a b) = false
 
--- The bytes that a list's steps take: an enter has 6, a leave 4, a token 7, an error 8.
+-- The bytes that a list's steps take: an enter has 6, a leave 4, a token 7, an error 8 and, with what was found, 10.
 abbrev pub needed : List Event → ℕ
-needed es = 6 * count isNode es + 4 * count isFinish es + 7 * count isToken es + 8 * count isError es
+needed es = 6 * count isNode es + 4 * count isFinish es + 7 * count isToken es + 8 * count isError es + 10 * count isExpected es
 
 -- The conditions of the check, each with its number and place: too many events, an odd number of words, a list that is not well formed.
 pub data Faulty (ws : List ℕ) : ℕ → ℕ → Type 0 where

@@ -38,8 +38,8 @@ rows =
     ∷ row listing 4 1 1 51
     ∷ row listing 8 3 1 51
     ∷ row listing 11 3 3 51
-    -- an error; words that are no event
-    ∷ row (Error 2 0 ∷ NoEvent 7 7 ∷ []) 2 0 0 8
+    -- an error, one with what was found, and words that are no event
+    ∷ row (Error 2 0 0 ∷ Error 1 3 1 ∷ NoEvent 7 7 ∷ []) 3 0 0 18
     ∷ []
 
 table : map got rows ≡ rows

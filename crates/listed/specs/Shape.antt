@@ -6,7 +6,7 @@ use lib.Dec.{eqb}
 use Rattle.event.specs.declared.Event.{Event}
 use Rattle.event.specs.Event.{isStart}
 use Rattle.records.specs.declared.Step.{Step}
-use Rattle.records.specs.declared.Step.the-variants.{Enter as enter, Leave as leave, Token as token, Error as error}
+use Rattle.records.specs.declared.Step.the-variants.{Enter as enter, Leave as leave, Token as token, Error as error, Expected as expected}
 use Rattle.own.specs.Own.{own}
 use Rattle.turns.specs.Process.{Placed, placed}
 
@@ -19,6 +19,7 @@ closes zero (leave ∷ ss) = false
 closes (suc o) (leave ∷ ss) = closes o ss
 closes o (token k n ∷ ss) = closes o ss
 closes o (error c x ∷ ss) = closes o ss
+closes o (expected k f ∷ ss) = closes o ss
 
 -- the steps that come from event i
 unfoldable pub from : ℕ → List Placed → List Step
@@ -33,12 +34,14 @@ entersTombstone (enter (suc k) ∷ ss) = entersTombstone ss
 entersTombstone (leave ∷ ss) = entersTombstone ss
 entersTombstone (token k n ∷ ss) = entersTombstone ss
 entersTombstone (error c x ∷ ss) = entersTombstone ss
+entersTombstone (expected k f ∷ ss) = entersTombstone ss
 
 abbrev pub isEnter : Step → Bool
 isEnter (enter k) = true
 isEnter leave = false
 isEnter (token k n) = false
 isEnter (error c x) = false
+isEnter (expected k f) = false
 
 -- the steps that are no enter, and those that the events from place p on ask for, in the list's order
 unfoldable pub others : List Placed → List Placed

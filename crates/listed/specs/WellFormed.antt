@@ -15,14 +15,14 @@ abbrev pub isNode : Event → Bool
 isNode (Start k d) = cond (eqb k 0) false true
 isNode Finish = false
 isNode (Token k n) = false
-isNode (Error c x) = false
+isNode (Error c x f) = false
 isNode (NoEvent a b) = false
 
 abbrev pub isFinish : Event → Bool
 isFinish (Start k d) = false
 isFinish Finish = true
 isFinish (Token k n) = false
-isFinish (Error c x) = false
+isFinish (Error c x f) = false
 isFinish (NoEvent a b) = false
 
 -- how many of some events are such

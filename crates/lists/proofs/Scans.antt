@@ -34,7 +34,7 @@ next-bound (Start k d) o p es e = go (lands es d) e
 next-bound Finish zero p es e = let z : _≡_ {A = ℕ} 0 1 = cc in absurd (omega arith)
 next-bound Finish (suc o) p es e = let q : o ≡ p = cc in omega arith
 next-bound (Token k n) o p es e = let q : o ≡ p = cc in omega arith
-next-bound (Error c x) o p es e = let q : o ≡ p = cc in omega arith
+next-bound (Error c x f) o p es e = let q : o ≡ p = cc in omega arith
 next-bound (NoEvent a b) o p es e = let z : _≡_ {A = ℕ} 0 1 = cc in absurd (omega arith)
 
 -- the check's loop

@@ -146,7 +146,7 @@ module _ (o : ℕ) (es : List Event) where
   next-none (Start k d) h = absurd (omega arith)
   next-none Finish h = absurd (omega arith)
   next-none (Token k n) h = absurd (omega arith)
-  next-none (Error c x) h = absurd (omega arith)
+  next-none (Error c x f) h = absurd (omega arith)
   next-none (NoEvent a b) h = refl
 
   -- a distance that does not land
@@ -155,7 +155,7 @@ module _ (o : ℕ) (es : List Event) where
   next-lost (Start k d) h = rw h
   next-lost Finish h = absurd (true≢false h)
   next-lost (Token k n) h = absurd (true≢false h)
-  next-lost (Error c x) h = absurd (true≢false h)
+  next-lost (Error c x f) h = absurd (true≢false h)
   next-lost (NoEvent a b) h = absurd (true≢false h)
 
   -- an event whose distance lands, and whose traits r has
@@ -165,7 +165,7 @@ module _ (o : ℕ) (es : List Event) where
     next-fault (Start k d) h l z = absurd (omega arith)
     next-fault Finish h l z = let q : o ≡ 0 = omega arith in rw q
     next-fault (Token k n) h l z = absurd (omega arith)
-    next-fault (Error c x) h l z = absurd (omega arith)
+    next-fault (Error c x f) h l z = absurd (omega arith)
     next-fault (NoEvent a b) h l z = absurd (omega arith)
 
     pub next-passes : (e : Event) → 1 + r / 32 ≡ tells e → lands es (distance e) ≡ true → (o + r / 32 % 4 ≡ 0 → ⊥) → Open (o + r / 32 % 4 - 1) ≡ next e o es
@@ -179,21 +179,20 @@ module _ (o : ℕ) (es : List Event) where
         close zero n = absurd (n refl)
         close (suc o) n = let q : suc o - 1 ≡ o = omega arith in rw q
     next-passes (Token k m) h l n = let q : o + r / 32 % 4 - 1 ≡ o = omega arith in rw q
-    next-passes (Error c x) h l n = let q : o + r / 32 % 4 - 1 ≡ o = omega arith in rw q
+    next-passes (Error c x f) h l n = let q : o + r / 32 % 4 - 1 ≡ o = omega arith in rw q
     next-passes (NoEvent a b) h l n = absurd (omega arith)
 
-  -- a second word too large for any list
+  -- a second word too large for any list, of an event that is no error
   abbrev Faulty : Event → Type 0
   Faulty e = Fault ≡ next e o es
 
-  pub next-far : (a b : ℕ) → 65535 < b → length es < b → Faulty (decode a b)
+  pub next-far : (a b : ℕ) → a < 262144 → 65535 < b → length es < b → Faulty (decode a b)
   unfolding decode next
-  next-far a b h l =
+  next-far a b f h l =
       by-test Faulty (eqb (a / 65536) 1) _ _ (λ _. next-lost (Start (a % 65536) b) (past b l)) λ _.
-      rw (ne-eqb b 0 (λ z. omega arith), lt-leb b 3 (omega arith), le-ltb b 65536 (omega arith))
+      rw (ne-eqb b 0 (λ z. omega arith), lt-leb b 3 (omega arith), ne-eqb (a / 65536) 4 (λ z. omega arith))
       (by-test Faulty (eqb (a / 65536) 2) _ _ (λ _. by-test Faulty (eqb (a % 65536) 0) _ _ (λ _. refl) (λ _. refl)) λ _.
-      by-test Faulty (eqb (a / 65536) 3) _ _ (λ _. refl) λ _.
-      by-test Faulty (eqb (a / 65536) 4) _ _ (λ _. refl) (λ _. refl))
+      by-test Faulty (eqb (a / 65536) 3) _ _ (λ _. refl) (λ _. refl))
     where
       past : (b : ℕ) → length es < b → lands es b ≡ false
       past zero l = absurd (omega arith)
@@ -219,5 +218,5 @@ unfolding tells
 tells-cost (Start k d) r h = omega arith
 tells-cost Finish r h = omega arith
 tells-cost (Token k n) r h = omega arith
-tells-cost (Error c x) r h = omega arith
+tells-cost (Error c x f) r h = omega arith
 tells-cost (NoEvent a b) r h = absurd (omega arith)

@@ -25,7 +25,7 @@ next (Start k d) o es = cond (lands es d) (Open (o + min k 1)) Fault
 next Finish zero es = Fault
 next Finish (suc o) es = Open o
 next (Token k n) o es = Open o
-next (Error c x) o es = Open o
+next (Error c x f) o es = Open o
 next (NoEvent a b) o es = Fault
 
 abbrev pub onNext : Next → (ℕ → Numbers) → Numbers → Numbers

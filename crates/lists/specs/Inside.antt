@@ -22,7 +22,7 @@ unfoldable pub tells : Event → ℕ
 tells (Start k d) = traits (1 + min k 1) (cost (Start k d))
 tells Finish = traits 0 (cost Finish)
 tells (Token k n) = traits 1 (cost (Token k n))
-tells (Error c x) = traits 1 (cost (Error c x))
+tells (Error c x f) = traits 1 (cost (Error c x f))
 tells (NoEvent a b) = 0
 
 -- A number that says the traits of each event with first word a: a bit for the second word, the last for 4 and more; above the bits the rest.

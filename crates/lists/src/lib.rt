@@ -125,7 +125,7 @@ fn pass_plain(e: Event, held: usize) -> Past
             Past::On(held - 1, cost(e))
         },
         Event::Token(_, _) => Past::On(held, cost(e)),
-        Event::Error(_, _) => Past::On(held, cost(e)),
+        Event::Error(_, _, _) => Past::On(held, cost(e)),
         Event::NoEvent(_, _) => Past::Stuck,
     }
 }

@@ -17,7 +17,7 @@ abbrev pub Goes : ℕ → Event → ℕ → Type 0
 Goes d (Start k j) d′ = d′ ≡ cond (eqb k 0) d (suc d)
 Goes d Finish d′ = d ≡ suc d′
 Goes d (Token k n) d′ = d′ ≡ d
-Goes d (Error c a) d′ = d′ ≡ d
+Goes d (Error c a f) d′ = d′ ≡ d
 Goes d (NoEvent a b) d′ = ⊥
 
 abbrev pub Balanced : ℕ → List Event → ℕ → Type 0
@@ -29,7 +29,7 @@ abbrev pub isTomb : Event → Bool
 isTomb (Start k d) = eqb k 0
 isTomb Finish = false
 isTomb (Token k n) = false
-isTomb (Error c a) = false
+isTomb (Error c a f) = false
 isTomb (NoEvent a b) = false
 
 -- one event more
@@ -46,7 +46,7 @@ goes-deeper d d′ (Start k j) h = rw h (by (eqb k 0))
     by false = refl
 goes-deeper d d′ Finish h = ap suc h
 goes-deeper d d′ (Token k n) h = ap suc h
-goes-deeper d d′ (Error c a) h = ap suc h
+goes-deeper d d′ (Error c a f) h = ap suc h
 goes-deeper d d′ (NoEvent a b) h = h
 
 deeper : (d d′ : ℕ) (l : List Event) → Balanced d l d′ → Balanced (suc d) l (suc d′)
@@ -58,14 +58,14 @@ tomb-goes : (d d′ : ℕ) (v : Event) → isTomb v ≡ true → Goes d v d′ �
 tomb-goes d d′ (Start k j) t h = h ∙ rw t refl
 tomb-goes d d′ Finish t h = apart t
 tomb-goes d d′ (Token k n) t h = h
-tomb-goes d d′ (Error c a) t h = h
+tomb-goes d d′ (Error c a f) t h = h
 tomb-goes d d′ (NoEvent a b) t h = absurd h
 
 named-goes : (d k : ℕ) (v : Event) → (k ≡ 0 → ⊥) → isTomb v ≡ true → Goes d (withKind k v) (suc d)
 named-goes d k (Start j c) n t = rw (ne-eqb k 0 n) refl
 named-goes d k Finish n t = apart t
 named-goes d k (Token j c) n t = apart t
-named-goes d k (Error c a) n t = apart t
+named-goes d k (Error c a f) n t = apart t
 named-goes d k (NoEvent a b) n t = apart t
 
 pub balanced-named : (d d′ : ℕ) (l : List Event) (m k : ℕ) → (k ≡ 0 → ⊥) → isTomb (getD l m (NoEvent 0 0)) ≡ true → Balanced d l d′ → Balanced d (set l m (withKind k (getD l m (NoEvent 0 0)))) (suc d′)
@@ -78,7 +78,7 @@ linked-goes : (d d′ j : ℕ) (v : Event) → Goes d v d′ → Goes d (withDis
 linked-goes d d′ j (Start k c) h = h
 linked-goes d d′ j Finish h = h
 linked-goes d d′ j (Token k n) h = h
-linked-goes d d′ j (Error c a) h = h
+linked-goes d d′ j (Error c a f) h = h
 linked-goes d d′ j (NoEvent a b) h = h
 
 pub balanced-linked : (d d′ : ℕ) (l : List Event) (m j : ℕ) → Balanced d l d′ → Balanced d (set l m (withDistance j (getD l m (NoEvent 0 0)))) d′

@@ -9,10 +9,10 @@ use Rattle.kinds.specs.Membership.{oneOf, both}
 use Rattle.runtime.specs.declared.parser.Completed.{Completed}
 use Rattle.runtime.specs.declared.parser.Stop.{Stop}
 use Rattle.runtime.specs.declared.parser.Stop.the-variants.{Panic}
-use Rattle.runtime.specs.Acts.{Act.takes, Acts, Acts.done, Acts.act, _>>=_, one as only, nth, nthAt, eat, atTs, start, stop, isRefused, bump, bumpAny, error, expect, complete, abandon, precede, extendTo, errRecover, must, goesOn, Turn, Turn.more, Turn.last, iter, rounds, repeats}
+use Rattle.runtime.specs.Acts.{Act.takes, Acts, Acts.done, Acts.act, _>>=_, one as only, nth, nthAt, eat, atTs, start, stop, isRefused, bump, bumpAny, error, errorExpected, expect, complete, abandon, precede, extendTo, errRecover, must, goesOn, Turn, Turn.more, Turn.last, iter, rounds, repeats}
 use Rattle.markers.proofs.Marks.{Marker, Marker.fresh, Marker.made, Marker.shut, Marks}
 use Rattle.markers.proofs.Live.{Closes, Closes.one, Closes.other, Closes.there, Drops, Drops.here, Drops.there, Has, Has.here, Has.there, Extends, Extends.here, Extends.there}
-use Rattle.markers.proofs.Safe.{small, nodeKind, Handling, Handling.silent, Handling.leaves, Handling.halts, handling, SafeBy, Safe}
+use Rattle.markers.proofs.Safe.{small, ordinary, nodeKind, Handling, Handling.silent, Handling.leaves, Handling.halts, handling, SafeBy, Safe}
 
 -- what follows an act, with less asked of it
 follows : {X : Type 0} (c : Handling X) (o : Marks) (S S′ : X → Marks → Type 0) → ((x : X) (r : Marks) → S x r → S′ x r) → SafeBy c o S → SafeBy c o S′
@@ -163,8 +163,11 @@ run-take = record { runs = λ o r p x. p }
 pub run-refused : Run [] isRefused none
 run-refused = record { runs = λ o r p b. p }
 
-pub run-error : (c a : ℕ) → T (both (small c) (small a)) → Run [] (error c a) none
+pub run-error : (c a : ℕ) → T (both (ordinary c) (small a)) → Run [] (error c a) none
 run-error c a t = record { runs = λ o r p x. (_, (t, refl), p) }
+
+pub run-expected : (k : ℕ) → T (small k) → Run [] (errorExpected k) none
+run-expected k t = record { runs = λ o r p x. (_, (t, refl), p) }
 
 -- after a stop nothing is asked
 pub run-stop : {A : Type 0} (w : Stop) (f : Unit {0} → Acts A) (xs : Marks) (ys : A → Marks) → Run xs (stop w >>= f) ys
@@ -189,7 +192,7 @@ run-bump-any = also _ _ (run-look 0) (λ k. if (eqb k EOF) _ _ (ends tt none) ru
 
 pub run-expect : (k : ℕ) → T (small k) → Run [] (expect k) none
 unfolding expect
-run-expect k t = also _ _ (run-eat k) (λ b. if b _ _ (ends true none) (also _ _ (run-error 1 k t) (λ u. ends false none)))
+run-expect k t = also _ _ (run-eat k) (λ b. if b _ _ (ends true none) (also _ _ (run-expected k t) (λ u. ends false none)))
 
 pub run-must : (k : ℕ) → Run [] (must k) none
 unfolding must
@@ -222,7 +225,7 @@ run-repeats f tr h x = run-iter f tr h rounds x
 
 -- a message
 abbrev pub message : ℕ → Bool
-message code = both (small code) (small 0)
+message c = both (ordinary c) (small 0)
 
 pub run-err-recover : (code : ℕ) (set : List ℕ) → T (message code) → Run [] (errRecover code set) none
 unfolding errRecover

@@ -1,11 +1,19 @@
--- What a marker act finds at its marker, at every moment of a run of safe acts. Assumes nothing.
-use mathlib.Core.Path.{_≡_, sym, ap, _∙_}
+-- What a marker act finds at its marker, at every moment of a run of safe acts, and what such a run covers. Assumes nothing.
+use mathlib.Core.Path.{_≡_, refl, sym, ap, _∙_, subst}
+use mathlib.Core.Bool.{Bool, true, false}
+use mathlib.Core.List.{List}
+use Prim.Native.Nat.{ℕ}
+use native.Mathlib.Omega.{arith}
+use lib.Dec.{eqb}
+use borrow.Author.Tests.{eqb-true, eqb-false}
 use mathlib.Core.Logic.{_⊎_, inl, inr}
 use Rattle.input.specs.Input.{Env}
-use Rattle.runtime.specs.State.{St, Fit}
+use Rattle.runtime.specs.State.{St, view, new, Fit}
+use Rattle.runtime.specs.Cover.{Covers, events}
 use Rattle.runtime.specs.Acts.{Act, step, Acts, Acts.done, Acts.act, run, one}
-use Rattle.runtime.proofs.Kept.{kept-step}
+use Rattle.runtime.proofs.Kept.{coded-keeps, kept-step}
 use Rattle.runtime.proofs.Runs.{fits, Held, helds, refused-run}
+use Rattle.runs.proofs.Covered.{Covered, covers}
 use Rattle.markers.proofs.Marks.{Marks}
 use Rattle.markers.proofs.Safe.{handling, Safe, Finds, Bounded, WellMade, Next, safe-step, safe-finds}
 
@@ -38,3 +46,18 @@ safe-orderly e b (act a m) o Q s f d g h = (
     by : (step e a s .1 .p .refused ≡ 0 → ⊥) ⊎ Next e a m Q s → ((o′ : Marks) → Safe (m (step e a s .0)) o′ Q → WellMade o′ (step e a s .1) → Orderly e (m (step e a s .0)) (step e a s .1)) → Orderly e (m (step e a s .0)) (step e a s .1)
     by (inl n) k = refused-orderly e (m (step e a s .0)) (step e a s .1) n
     by (inr x) k = k (x .after) (x .safe) (x .sound)
+
+-- The token events of an orderly run cover the tokens that it consumed, and each error says what it stood at: none has code 1 but with the
+-- kind of the token there.
+pub covered-run : {A : Type 0} (e : Env) (m : Acts A) (s : St) → Orderly e m s → Covered e s → Covered e (run e m s .1)
+unfolding run
+covered-run e (done a) s o h = h
+covered-run e (act a m) s o h = covered-run e (m (step e a s .0)) (step e a s .1) (o .1) (by (eqb (s .p .refused) 0) refl)
+  where
+    by : (b : Bool) → eqb (s .p .refused) 0 ≡ b → Covered e (step e a s .1)
+    by true q = coded-keeps e (Covered e) (covers e) a s (λ c x w. subst (λ (b : Act). Proper b s) w (o .0 (eqb-true _ _ q))) h
+    by false q = subst (Covered e) (sym (still e a s (eqb-false _ _ q))) h
+
+-- from the beginning
+pub covered : {A : Type 0} (e : Env) (m : Acts A) (room : List ℕ) → Orderly e m (view new room) → Covers e 0 (events (run e m (view new room) .1)) (run e m (view new room) .1 .p .pos)
+covered e m room o = covered-run e m (view new room) o (record { held = omega arith; tokens = refl }) .tokens

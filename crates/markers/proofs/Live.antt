@@ -13,9 +13,10 @@ use Rattle.event.specs.declared.Event.{Event}
 use Rattle.event.specs.declared.Event.the-variants.{Start, Finish, Token, Error, NoEvent}
 use Rattle.event.specs.Event.{isStart, isBare, withKind, withDistance, Sound, distance}
 use Rattle.laws.proofs.Tests.{apart}
+use Rattle.event.proofs.Encoding.{bare-start}
 use Rattle.event.proofs.Rooms.{Sounds}
 use Rattle.markers.proofs.Balance.{Goes, Balanced, isTomb, balanced-add, balanced-named, balanced-linked, balanced-take}
-use Rattle.markers.proofs.Marks.{Marker, Marker.fresh, Marker.made, Marker.shut, Marks, spot, at, Links, Free, Is, Fits, start-below, bare-start, bare-reach, fits-more, fits-same, links-add, free-end, is-add, start-set, links-set, is-set, links-take, is-take}
+use Rattle.markers.proofs.Marks.{Marker, Marker.fresh, Marker.made, Marker.shut, Marks, spot, at, Links, Free, Is, Fits, start-below, bare-reach, fits-more, fits-same, links-add, free-end, is-add, start-set, links-set, is-set, links-take, is-take}
 
 -- Starts and finishes balance, distances land on starts, numbers fit, and the markers o stand.
 pub record Live (o : Marks) (l : List Event) : Type 0 where
@@ -121,7 +122,7 @@ bare-tomb (Start k d) h = by (eqb k 0) h
     by false q = q
 bare-tomb Finish h = h
 bare-tomb (Token k n) h = h
-bare-tomb (Error c a) h = h
+bare-tomb (Error c a f) h = h
 bare-tomb (NoEvent a b) h = h
 
 -- `complete`: a kind, and a finish
@@ -130,21 +131,21 @@ module _ (l : List Event) (i k : ℕ) (bare : isBare (at l i) ≡ true) where
   named-reach (Start j d) h = bare-reach (Start j d) h
   named-reach Finish h = refl
   named-reach (Token j n) h = refl
-  named-reach (Error c a) h = refl
+  named-reach (Error c a f) h = refl
   named-reach (NoEvent a b) h = refl
 
   named-start : (v : Event) → isBare v ≡ true → isStart (withKind k v) ≡ true
   named-start (Start j d) h = refl
   named-start Finish h = h
   named-start (Token j n) h = h
-  named-start (Error c a) h = h
+  named-start (Error c a f) h = h
   named-start (NoEvent a b) h = h
 
   named-fits : (v : Event) → k < 65536 → isBare v ≡ true → Sound (withKind k v)
   named-fits (Start j d) f h = f
   named-fits Finish f h = tt
   named-fits (Token j n) f h = apart h
-  named-fits (Error c a) f h = apart h
+  named-fits (Error c a w) f h = apart h
   named-fits (NoEvent a b) f h = apart h
 
   is-start : isStart (at l i) ≡ true
@@ -203,21 +204,21 @@ module _ (l : List Event) (i j : ℕ) (si : isStart (at l i) ≡ true) (sj : isS
   far-start (Start k d) h = refl
   far-start Finish h = h
   far-start (Token k n) h = h
-  far-start (Error c a) h = h
+  far-start (Error c a f) h = h
   far-start (NoEvent a b) h = h
 
   far-reach : (v : Event) → isStart v ≡ true → distance (withDistance (j - i) v) ≡ j - i
   far-reach (Start k d) h = refl
   far-reach Finish h = apart h
   far-reach (Token k n) h = apart h
-  far-reach (Error c a) h = apart h
+  far-reach (Error c a f) h = apart h
   far-reach (NoEvent a b) h = apart h
 
   far-fits : (v : Event) → isStart v ≡ true → Sound v → Sound (withDistance (j - i) v)
   far-fits (Start k d) h f = f
   far-fits Finish h f = f
   far-fits (Token k n) h f = f
-  far-fits (Error c a) h f = f
+  far-fits (Error c a w) h f = f
   far-fits (NoEvent a b) h f = f
 
   lands : i + distance (withDistance (j - i) (at l i)) ≡ j

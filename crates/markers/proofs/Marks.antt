@@ -59,13 +59,6 @@ start-below l p h = by (ltb p (length l)) refl
     by true q = ltb-true _ _ q
     by false q = apart (ap isStart (sym (List·getD-eq-default l (NoEvent 0 0) (ltb-false p (length l) q))) ∙ h)
 
-pub bare-start : (v : Event) → isBare v ≡ true → isStart v ≡ true
-bare-start (Start k d) h = refl
-bare-start Finish h = h
-bare-start (Token k n) h = h
-bare-start (Error c a) h = h
-bare-start (NoEvent a b) h = h
-
 pub bare-reach : (v : Event) → isBare v ≡ true → distance v ≡ 0
 bare-reach (Start k d) h = by (eqb k 0) h
   where
@@ -74,7 +67,7 @@ bare-reach (Start k d) h = by (eqb k 0) h
     by false q = apart q
 bare-reach Finish h = refl
 bare-reach (Token k n) h = refl
-bare-reach (Error c a) h = refl
+bare-reach (Error c a f) h = refl
 bare-reach (NoEvent a b) h = refl
 
 pub fits-more : (n n′ : ℕ) (l : List Event) (o : Marks) → n ≤ n′ → Fits n l o → Fits n′ l o

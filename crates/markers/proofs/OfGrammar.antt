@@ -4,14 +4,14 @@ use mathlib.Core.Bool.{Bool, true, false, not}
 use Prim.Native.Nat.{ℕ}
 use lib.Dec.{T}
 use Rattle.kinds.specs.Kinds.{THIN-ARROW, IDENT, HARDWAREIDENT, HARDWARE-QUBIT, NAME, RETURN-SIGNATURE}
-use Rattle.kinds.specs.Membership.{oneOf, both}
+use Rattle.kinds.specs.Membership.{oneOf}
 use Rattle.kinds.specs.Sets.{SCALAR-TYPES, TYPES}
-use Rattle.kinds.specs.Messages.{EXPECTED, EXPECTED-A-NAME}
+use Rattle.kinds.specs.Messages.{EXPECTED-A-NAME}
 use Rattle.runtime.specs.Acts.{Acts}
 use Rattle.grammar.specs.declared.Got.{Got}
 use Rattle.grammar.specs.Grammar.{Counted, failIfAt, failUnlessAt, nameR, separator, isSome, delimitedRound, delimited, scalarReturn, optRetType}
 use Rattle.markers.proofs.Safe.{small}
-use Rattle.markers.proofs.Calculus.{Run, none, also, ends, if, run-look, run-at, run-at-ts, run-bump, run-expect, run-error, run-goes-on, run-repeats, run-err-recover, message, opening, closed, dropped, unread, perhaps}
+use Rattle.markers.proofs.Calculus.{Run, none, also, ends, if, run-look, run-at, run-at-ts, run-bump, run-expect, run-error, run-expected, run-goes-on, run-repeats, run-err-recover, message, opening, closed, dropped, unread, perhaps}
 use Rattle.markers.proofs.Counted.{Tidy, unseen, gotten}
 
 pub fail-if-at : (k code : ℕ) → T (message code) → Run [] (failIfAt k code) none
@@ -30,14 +30,14 @@ name-r recovery =
     (also _ _ (run-at 0 IDENT)
     (λ b. if b _ _ (opening _ (λ m. also _ _ (run-bump IDENT) (λ u. closed m NAME tt))) (run-err-recover EXPECTED-A-NAME recovery tt))))
 
-sep : (delim : ℕ) (first : List ℕ) → T (both (small EXPECTED) (small delim)) → Run [] (separator delim first) none
+sep : (delim : ℕ) (first : List ℕ) → T (small delim) → Run [] (separator delim first) none
 unfolding separator
 sep delim first t =
     also _ _ (run-at 0 delim)
     (λ b. if b _ _ (also _ _ (run-bump delim) (λ u. ends true none))
-    (also _ _ (run-at-ts first) (λ b. if b _ _ (also _ _ (run-error EXPECTED delim t) (λ u. ends true none)) (ends false none))))
+    (also _ _ (run-at-ts first) (λ b. if b _ _ (also _ _ (run-expected delim t) (λ u. ends true none)) (ends false none))))
 
-pub delimited-tidy : (bra ket : ℕ) (consume : Bool) (delim : ℕ) (first : List ℕ) (parser : Acts Got) → T (small ket) → T (both (small EXPECTED) (small delim)) → Run [] parser gotten → Run [] (delimited bra ket consume delim first parser) none
+pub delimited-tidy : (bra ket : ℕ) (consume : Bool) (delim : ℕ) (first : List ℕ) (parser : Acts Got) → T (small ket) → T (small delim) → Run [] parser gotten → Run [] (delimited bra ket consume delim first parser) none
 unfolding delimited delimitedRound
 delimited-tidy bra ket consume delim first parser k t h =
     also _ _ (perhaps consume _ (run-bump bra))

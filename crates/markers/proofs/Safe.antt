@@ -2,18 +2,19 @@
 use mathlib.Core.Path.{_≡_, refl, sym, ap, _∙_, subst}
 use mathlib.Core.Logic.{_⊎_, inl, inr}
 use mathlib.Core.List.{List, [], _∷_, _++_}
-use mathlib.Core.Bool.{Bool, true, false, cond}
+use mathlib.Core.Bool.{Bool, true, false, not, cond}
 use Prim.Native.Nat.{ℕ, _+_, _-_, _≤_, _<_, min}
 use native.Mathlib.Omega.{arith}
 use lib.ListN.{length, getD, set, length-set, List·getD-eq-default}
 use lib.Seq.{getD-take, length-take-le, take-set-lt}
 use lib.Dec.{T, eqb, ltb, ltb→lt}
-use borrow.Author.Tests.{eqb-true, eqb-false, ltb-true, ltb-false}
+use borrow.Author.Tests.{eqb-true, eqb-false, ltb-true, ltb-false, eq-eqb}
 use Rattle.kinds.specs.Kinds.{TOMBSTONE, EOF}
 use Rattle.kinds.specs.Membership.{both}
 use Rattle.event.specs.declared.Event.{Event}
 use Rattle.event.specs.declared.Event.the-variants.{Start, Finish, Token, Error, NoEvent}
 use Rattle.event.specs.Event.{holds, isStart, isBare, withKind, withDistance, Sound}
+use Rattle.event.proofs.Encoding.{bare-start}
 use Rattle.laws.proofs.Tests.{by-test}
 use Rattle.kinds.proofs.Laws.{both-parts}
 use Rattle.input.specs.declared.Parts.{Parts}
@@ -23,18 +24,22 @@ use Rattle.input.specs.Input.{Env, seen}
 use Rattle.input.specs.Glue.{gluedKinds, partsIn, partsOf, rawCount, standsAt}
 use Rattle.runtime.specs.State.{St, live, looked, halted, stopNumber, numbers, added, rewritten, refuse, popped, eventAt, pushEvent, enough, consume, doBump, named, linked, dropped, mostLooks, counted, refusal, consumed, Fit, gap}
 use Rattle.runtime.specs.Cover.{events}
-use Rattle.runtime.specs.Acts.{Act, Act.looks, Act.peeks, Act.eats, Act.takes, Act.starts, Act.completes, Act.abandons, Act.precedes, Act.extends, Act.fails, Act.stops, Act.asks, Answer, kindAhead, sees, step, Acts, Acts.done, Acts.act, run}
+use Rattle.runtime.specs.Acts.{Act, Act.looks, Act.peeks, Act.eats, Act.takes, Act.starts, Act.completes, Act.abandons, Act.precedes, Act.extends, Act.fails, Act.lacks, Act.stops, Act.asks, Answer, kindAhead, sees, step, Acts, Acts.done, Acts.act, run}
 use Rattle.runtime.proofs.Kept.{kept-step}
 use Rattle.runtime.proofs.Laws.{stop-number}
 use Rattle.input.proofs.Reading.{few-parts}
 use Rattle.runtime.proofs.Runs.{fits, Held, helds, refused-run}
-use Rattle.runs.proofs.Covered.{events-added, events-popped}
-use Rattle.markers.proofs.Marks.{Marker.fresh, Marker.made, Marks, Free, at, start-below, bare-start}
+use Rattle.runs.proofs.Covered.{events-added, events-popped, Other}
+use Rattle.markers.proofs.Marks.{Marker.fresh, Marker.made, Marks, Free, at, start-below}
 use Rattle.markers.proofs.Live.{Live, live-add, live-start, Closes, Drops, Has, Extends, closes-at, drops-at, has-at, extends-at, bare-extends, live-complete, live-drop, live-pop, live-extend, live-precede}
 
 -- a kind that a node can have, and a number that fits
 abbrev pub small : ℕ → Bool
 small n = ltb n 65536
+
+-- a code that `error` may have: that of "expected KIND" is another's
+abbrev pub ordinary : ℕ → Bool
+ordinary c = both (small c) (not (eqb c 1))
 
 abbrev pub nodeKind : ℕ → Bool
 nodeKind k = both (ltb 0 k) (small k)
@@ -59,7 +64,8 @@ handling (completes m k) = leaves (λ s. (isBare (eventAt s m) ≡ true) × (0 <
 handling (abandons m) = leaves (λ s. (isBare (eventAt s m) ≡ true) × Free (events s) m) (λ x o r. Drops m o r)
 handling (precedes m) = leaves (λ s. isStart (eventAt s m) ≡ true) (λ i o r. Has m o × (r ≡ made i ∷ o))
 handling (extends to m) = leaves (λ s. (isBare (eventAt s m) ≡ true) × (isStart (eventAt s to) ≡ true) × (m < to)) (λ x o r. Extends m to o r)
-handling (fails c a) = leaves (λ s. Unit {0}) (λ x o r. T (both (small c) (small a)) × (r ≡ o))
+handling (fails c a) = leaves (λ s. Other c) (λ x o r. T (both (ordinary c) (small a)) × (r ≡ o))
+handling (lacks k) = leaves (λ s. Unit {0}) (λ x o r. T (small k) × (r ≡ o))
 handling (stops why) = halts
 handling asks = silent
 
@@ -140,10 +146,8 @@ module _ (s : St) (held : Held s) where
   unfolding doBump
   bumped e o k n f h = consuming o k n f h (enough e (s .p) n)
 
-  failed : (o : Marks) (c a : ℕ) → T (both (small c) (small a)) → WellMade o s → WellMade o (pushEvent (Error c a) s)
-  failed o c a t h =
-      let b = both-parts (small c) (small a) t in
-      pushed o (Error c a) (λ z l. live-add o (events s) (Error c a) refl refl (ltb→lt _ _ (b .0), ltb→lt _ _ (b .1)) (h .list z))
+  failed : (o : Marks) (c a f : ℕ) → Sound (Error c a f) → WellMade o s → WellMade o (pushEvent (Error c a f) s)
+  failed o c a f b h = pushed o (Error c a f) (λ z l. live-add o (events s) (Error c a f) refl refl b (h .list z))
 
   pub started : (o : Marks) → WellMade o s → WellMade (fresh (s .p .len) ∷ o) (pushEvent (Start TOMBSTONE 0) s)
   started o h =
@@ -250,6 +254,9 @@ eaten e b s held k o h =
     (λ q. bumped s held e o k (rawCount (partsOf k)) (λ z. (stands-small e b (s .p .refused) (s .p .pos + 0) k q, few-parts (partsOf k) .0, few-parts (partsOf k) .1)) h)
     (λ q. h)
 
+other : (c : ℕ) → T (not (eqb c 1)) → Other c
+other c t q = rw (eq-eqb c 1 q) at t
+
 -- An act of safe acts is refused, or what follows is safe from the markers that it leaves.
 halted-refused : (n : ℕ) (p : Parser) → (n ≡ 0 → ⊥) → halted n p .refused ≡ 0 → ⊥
 unfolding halted
@@ -293,7 +300,12 @@ module _ (e : Env) (b : Bounded e) (o : Marks) (s : St) (f : Fit (s .p)) (d : He
         (ap isBare (at-event s m d) ∙ bare-extends (length (events s)) m to (events s) q g, ap isStart (at-event s to d) ∙ w .3, w .0),
     extended s d (f .short) m to q h,
   )
-  lawful (fails c a) = λ r q. (λ z. tt, rw (q .1) (failed s d o c a (q .0) h))
+  lawful (fails c a) = λ r q.
+      let b = both-parts (ordinary c) (small a) (q .0) in
+      let n = both-parts (small c) (not (eqb c 1)) (b .0) in
+      (λ z. other c (n .1), rw (q .1) (failed s d o c a 0 (ltb→lt _ _ (n .0), ltb→lt _ _ (b .1), omega arith, λ y. refl) h))
+  lawful (lacks k) = λ r q.
+      (λ z. tt, rw (q .1) (failed s d o 1 k (kindAhead e (s .p) 0) (omega arith, ltb→lt _ _ (q .0), seen-small e b (s .p .refused) (s .p .pos + 0), λ n. absurd (n refl)) h))
   lawful (stops w) = halted-refused (stopNumber w) (s .p) (stop-number w)
   lawful asks = h
 

@@ -4,7 +4,7 @@ use mathlib.Core.Path.{_≡_, refl, sym, ap, _∙_, subst}
 use mathlib.Core.List.{List, [], _∷_, _++_}
 use lib.ListN.{length, drop}
 use borrow.Author.Tests.{lt-ltb, le-ltb}
-use Rattle.records.specs.declared.Step.the-variants.{Enter, Leave, Token, Error}
+use Rattle.records.specs.declared.Step.the-variants.{Enter, Leave, Token, Error, Expected}
 use Rattle.stepfile.specs.declared.Found.{Found}
 use Rattle.stepfile.specs.declared.Found.the-variants.{Sound, End, Cut, Unsound}
 use Rattle.stepfile.specs.Front.{front, taken}
@@ -27,6 +27,7 @@ six-words (Sound (Enter k)) = refl
 six-words (Sound Leave) = refl
 six-words (Sound (Token k n)) = refl
 six-words (Sound (Error c x)) = refl
+six-words (Sound (Expected k f)) = refl
 six-words End = refl
 six-words Cut = refl
 six-words Unsound = refl
@@ -35,10 +36,10 @@ module _ (bs room : List ℕ) where
   pub no-words : length room < 6 → readsStep bs room ≡ returns 100 room
   no-words h = too-short room (six (front bs)) (numberOf (front bs)) (rw (six-words (front bs)) h)
 
-  pub step-told : (f : Found) (n rest k a b : ℕ) (left : List ℕ) → 6 ≤ length room → f ≡ front bs → n ≡ numberOf f → rest ≡ taken f → k ∷ a ∷ b ∷ [] ≡ fields f
-      → left ≡ (rest ∷ k ∷ a ∷ b ∷ 0 ∷ 0 ∷ []) ++ drop 6 room → readsStep bs room ≡ returns n left
-  step-told f n rest k a b left h e c r q l =
-      let s : rest ∷ k ∷ a ∷ b ∷ 0 ∷ 0 ∷ [] ≡ six f = rw r (ap (λ (ws : List ℕ). taken f ∷ (ws ++ (0 ∷ 0 ∷ []))) q) in
+  pub step-told : (f : Found) (n rest k a b d : ℕ) (left : List ℕ) → 6 ≤ length room → f ≡ front bs → n ≡ numberOf f → rest ≡ taken f → k ∷ a ∷ b ∷ d ∷ [] ≡ fields f
+      → left ≡ (rest ∷ k ∷ a ∷ b ∷ d ∷ 0 ∷ []) ++ drop 6 room → readsStep bs room ≡ returns n left
+  step-told f n rest k a b d left h e c r q l =
+      let s : rest ∷ k ∷ a ∷ b ∷ d ∷ 0 ∷ [] ≡ six f = rw r (ap (λ (ws : List ℕ). taken f ∷ (ws ++ (0 ∷ []))) q) in
       let m = sym (six-words f) in
       rw (← e)
       (is-told room (six f) (numberOf f) n left (subst (λ (x : ℕ). x ≤ length room) m h) c

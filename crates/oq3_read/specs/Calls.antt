@@ -5,7 +5,7 @@ use mathlib.Core.List.{List, [], _∷_, _++_}
 use lib.Dec.{ltb}
 use lib.ListN.{length, drop}
 use Rattle.records.specs.declared.Step.{Step}
-use Rattle.records.specs.declared.Step.the-variants.{Enter, Leave, Token, Error}
+use Rattle.records.specs.declared.Step.the-variants.{Enter, Leave, Token, Error, Expected}
 use Rattle.stepfile.specs.declared.Found.{Found}
 use Rattle.stepfile.specs.declared.Found.the-variants.{Sound, End, Cut, Unsound}
 use Rattle.stepfile.specs.Front.{front, taken}
@@ -30,20 +30,21 @@ readsFile bs room = told room (fileRead bs .code) (fileRead bs .place ∷ fileRe
 
 -- record kind and payload's numbers (docs/RULES.md, section 7), 0 for those that a record lacks; at no step all are 0
 abbrev pub fieldsOf : Step → List ℕ
-fieldsOf (Enter k) = 1 ∷ k ∷ 0 ∷ []
-fieldsOf Leave = 2 ∷ 0 ∷ 0 ∷ []
-fieldsOf (Token k n) = 3 ∷ k ∷ n ∷ []
-fieldsOf (Error c x) = 4 ∷ c ∷ x ∷ []
+fieldsOf (Enter k) = 1 ∷ k ∷ 0 ∷ 0 ∷ []
+fieldsOf Leave = 2 ∷ 0 ∷ 0 ∷ 0 ∷ []
+fieldsOf (Token k n) = 3 ∷ k ∷ n ∷ 0 ∷ []
+fieldsOf (Error c x) = 4 ∷ c ∷ x ∷ 0 ∷ []
+fieldsOf (Expected k f) = 5 ∷ 1 ∷ k ∷ f ∷ []
 
 abbrev pub fields : Found → List ℕ
 fields (Sound s) = fieldsOf s
-fields End = 0 ∷ 0 ∷ 0 ∷ []
-fields Cut = 0 ∷ 0 ∷ 0 ∷ []
-fields Unsound = 0 ∷ 0 ∷ 0 ∷ []
+fields End = 0 ∷ 0 ∷ 0 ∷ 0 ∷ []
+fields Cut = 0 ∷ 0 ∷ 0 ∷ 0 ∷ []
+fields Unsound = 0 ∷ 0 ∷ 0 ∷ 0 ∷ []
 
--- One step: where the rest begins, and the fields. The two last words are for records with more numbers: there are none.
+-- One step: where the rest begins, and the fields. The last word is for records with more numbers: there are none.
 abbrev pub six : Found → List ℕ
-six f = taken f ∷ (fields f ++ (0 ∷ 0 ∷ []))
+six f = taken f ∷ (fields f ++ (0 ∷ []))
 
 abbrev pub readsStep : List ℕ → List ℕ → Call
 readsStep bs room = told room (numberOf (front bs)) (six (front bs))

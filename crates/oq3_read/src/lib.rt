@@ -13,42 +13,54 @@ struct Fields {
     kind: u64,
     first: u64,
     second: u64,
+    third: u64,
 }
 
 fn of_step(s: Step) -> Fields
-    ensures { λ r. ⌜ r .kind ∷ (r .first ∷ (r .second ∷ [])) ≡ fieldsOf s ⌝ }
+    ensures { λ r. ⌜ r .kind ∷ (r .first ∷ (r .second ∷ (r .third ∷ []))) ≡ fieldsOf s ⌝ }
 {
     match s {
         Step::Enter(kind) => Fields {
             kind: 1,
             first: kind as u64,
             second: 0,
+            third: 0,
         },
         Step::Leave => Fields {
             kind: 2,
             first: 0,
             second: 0,
+            third: 0,
         },
         Step::Token(kind, count) => Fields {
             kind: 3,
             first: kind as u64,
             second: count as u64,
+            third: 0,
         },
         Step::Error(code, argument) => Fields {
             kind: 4,
             first: code as u64,
             second: argument as u64,
+            third: 0,
+        },
+        Step::Expected(kind, found) => Fields {
+            kind: 5,
+            first: 1,
+            second: kind as u64,
+            third: found as u64,
         },
     }
 }
 
 fn of_front(f: Found) -> Fields
-    ensures { λ r. ⌜ r .kind ∷ (r .first ∷ (r .second ∷ [])) ≡ fields f ⌝ }
+    ensures { λ r. ⌜ r .kind ∷ (r .first ∷ (r .second ∷ (r .third ∷ []))) ≡ fields f ⌝ }
 {
     let none = Fields {
         kind: 0,
         first: 0,
         second: 0,
+        third: 0,
     };
     match f {
         Found::Sound(s) => of_step(s),
@@ -61,13 +73,13 @@ fn of_front(f: Found) -> Fields
 // Writes where the rest begins, the record kind and the numbers.
 fn tell(answer: &mut [u64], rest: usize, r: Fields)
     requires { ⌜ 6 ≤ length (now answer) ⌝ }
-    ensures { λ _. ⌜ now (answer .exit) ≡ (rest ∷ (r .kind ∷ (r .first ∷ (r .second ∷ (0 ∷ (0 ∷ [])))))) ++ drop 6 (now (answer .entry)) ⌝ }
+    ensures { λ _. ⌜ now (answer .exit) ≡ (rest ∷ (r .kind ∷ (r .first ∷ (r .second ∷ (r .third ∷ (0 ∷ [])))))) ++ drop 6 (now (answer .entry)) ⌝ }
 {
     answer[0] = rest as u64;
     answer[1] = r.kind;
     answer[2] = r.first;
     answer[3] = r.second;
-    answer[4] = 0;
+    answer[4] = r.third;
     answer[5] = 0;
 }
 

@@ -140,7 +140,7 @@ wide (Token k n) a b f s q =
       whole = rw (m, t, ← x) (halves 196611 k (b % 65536) (omega arith) (s .0) (omega arith));
       size = rw (ne-eqb a 65536 (λ z. omega arith), t);
     }
-wide (Error c y) a b f s q = let e : 262144 + c ≡ a = front q in absurd (omega arith)
+wide (Error c y w) a b f s q = let e : 262144 + c ≡ a = front q in absurd (omega arith)
 wide (NoEvent x y) a b f s q = absurd s
 
 pub wide-own : (a b : ℕ) → a < 262144 → Say a b → Wide a b (decode a b)

@@ -6,13 +6,24 @@ use records::LEAVE;
 use records::Step;
 use records::TOKEN;
 use records::put;
+use records::size;
 ghost use mathlib.Core.Path.{_≡_};
 ghost use Prim.Native.Nat.{_+_, _/_, _%_, _<_, _≤_};
 ghost use lib.ListN.{length, getD};
 ghost use Rattle.event.specs.Event.{decode, distance};
 ghost use Rattle.records.specs.Record.{bytes, over, Wrote};
-ghost use Rattle.own.specs.Own.{own, cost};
+ghost use Rattle.own.specs.Own.{own, reports, cost};
 ghost use Rattle.own.specs.Inside.{Say, heads, le64, Laid};
+
+// The step of an error: "expected KIND", which is code 1, has what was found.
+fn report(c: u16, x: u16, f: u16) -> Step
+    ensures { λ r. ⌜ r ≡ reports c x f ⌝ }
+{
+    if c == 1 {
+        return Step::Expected(x, f);
+    }
+    Step::Error(c, x)
+}
 
 // The bytes of what an event asks for itself: no chain comes into it.
 pub fn cost(e: Event) -> usize
@@ -22,7 +33,7 @@ pub fn cost(e: Event) -> usize
         Event::Start(k, _) => if k == 0 { 0 } else { 6 },
         Event::Finish => 4,
         Event::Token(_, _) => 7,
-        Event::Error(_, _) => 8,
+        Event::Error(c, x, f) => size(report(c, x, f)),
         Event::NoEvent(_, _) => 0,
     }
 }
@@ -49,7 +60,7 @@ pub fn put_own(out: &mut [u8], at: usize, e: Event) -> usize
         }
         Event::Finish => put(out, at, Step::Leave),
         Event::Token(k, n) => put(out, at, Step::Token(k, n)),
-        Event::Error(c, x) => put(out, at, Step::Error(c, x)),
+        Event::Error(c, x, f) => put(out, at, report(c, x, f)),
         Event::NoEvent(_, _) => at,
     }
 }

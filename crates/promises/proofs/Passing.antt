@@ -53,7 +53,7 @@ scan-passes [] i o b c = let e : i + 0 ≡ i = omega arith in rw (b, e)
 scan-passes (Start k d ∷ l) i o b c = let e : i + suc (length l) ≡ suc i + length l = omega arith in rw (c .0, deeper k o, ← b .1, e) (scan-passes l (suc i) (b .0) (b .2) (c .1))
 scan-passes (Finish ∷ l) i o b c = let e : i + suc (length l) ≡ suc i + length l = omega arith in rw (b .1, e) (scan-passes l (suc i) (b .0) (b .2) (c .1))
 scan-passes (Token k n ∷ l) i o b c = let e : i + suc (length l) ≡ suc i + length l = omega arith in rw (← b .1, e) (scan-passes l (suc i) (b .0) (b .2) (c .1))
-scan-passes (Error k a ∷ l) i o b c = let e : i + suc (length l) ≡ suc i + length l = omega arith in rw (← b .1, e) (scan-passes l (suc i) (b .0) (b .2) (c .1))
+scan-passes (Error k a f ∷ l) i o b c = let e : i + suc (length l) ≡ suc i + length l = omega arith in rw (← b .1, e) (scan-passes l (suc i) (b .0) (b .2) (c .1))
 scan-passes (NoEvent x y ∷ l) i o b c = absurd (b .1)
 
 pub live-passes : (o : Marks) (l : List Event) → Live o l → length l ≤ 65536 → checked (wordsOf l) ≡ says 0 (length l)

@@ -12,6 +12,7 @@ use Rattle.kinds.specs.Membership.{both}
 use Rattle.event.specs.declared.Event.{Event}
 use Rattle.event.specs.declared.Event.the-variants.{Start, Finish, Token, Error, NoEvent}
 use Rattle.event.specs.Event.{holds, isStart, isBare, withKind}
+use Rattle.event.proofs.Encoding.{bare-start}
 use Rattle.laws.proofs.Tests.{by-test, apart}
 use Rattle.input.specs.Input.{Env}
 use Rattle.runtime.specs.State.{St, view, new, live, added, rewritten, refuse, eventAt, pushEvent, named, Fit}
@@ -25,7 +26,7 @@ use Rattle.operators.specs.Operators.{Table}
 use Rattle.grammar.specs.Items.{sourceFileContents}
 use Rattle.grammar.specs.Entry.{counted, deepest, sourceFile}
 use Rattle.markers.proofs.Balance.{Balanced}
-use Rattle.markers.proofs.Marks.{Marker.fresh, Marks, at, Fits, start-below, bare-start}
+use Rattle.markers.proofs.Marks.{Marker.fresh, Marks, at, Fits, start-below}
 use Rattle.markers.proofs.Live.{Live}
 use Rattle.markers.proofs.Safe.{Bounded, at-event, count, started, rewrote, safe-run}
 use Rattle.markers.proofs.Calculus.{Opens, Opens.base, Opens.extra}
@@ -73,7 +74,7 @@ bare-is (Start k d) h = by (eqb k 0) refl h
     by false q e = apart e
 bare-is Finish h = apart h
 bare-is (Token k n) h = apart h
-bare-is (Error c a) h = apart h
+bare-is (Error c a f) h = apart h
 bare-is (NoEvent a b) h = apart h
 
 -- a list that is a tombstone and a body, and the body

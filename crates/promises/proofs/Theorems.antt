@@ -14,10 +14,9 @@ use Rattle.event.specs.Event.{eventsOf, wordsOf, tombstone}
 use Rattle.event.proofs.Rooms.{events-words}
 use Rattle.input.specs.Input.{env}
 use Rattle.runtime.specs.State.{view, new}
-use Rattle.runtime.specs.Cover.{events}
+use Rattle.runtime.specs.Cover.{Covers, events}
 use Rattle.runtime.specs.Acts.{run}
 use Rattle.runtime.proofs.Runs.{inside-run}
-use Rattle.runs.proofs.Covered.{covered}
 use Rattle.operators.specs.Operators.{tableOf}
 use Rattle.records.specs.declared.Step.the-variants.{Enter as enter}
 use Rattle.records.specs.Record.{bytes, over}
@@ -36,11 +35,11 @@ use Rattle.listed.proofs.Theorems.{passing-resolves, passing-closes, entered-on
 use Rattle.parse.specs.declared.Entry.{Entry}
 use Rattle.parse.specs.declared.Entry.the-variants.{SourceFile}
 use Rattle.parse.specs.Parse.{Lent, Outcome, notPermitted, actsOf, ran, leaves, parsed}
-use Rattle.answers.proofs.Theorems.{hands-out}
+use Rattle.answers.proofs.Theorems.{hands-out, done-when}
 use Rattle.markers.proofs.Balance.{Balanced}
 use Rattle.markers.proofs.Marks.{Marker.fresh, Marker.made, Marker.shut, Marks}
 use Rattle.markers.proofs.Safe.{Safe}
-use Rattle.markers.proofs.Discipline.{Orderly, safe-orderly}
+use Rattle.markers.proofs.Discipline.{Orderly, safe-orderly, covered}
 use Rattle.markers.proofs.Calculus.{weaken, Opens, Opens.base, Opens.extra}
 use Rattle.answers.specs.Handed.{handed, stepsIn}
 use Rattle.promises.specs.Promised.{CoverSteps, rawSum, Rooted}
@@ -62,6 +61,17 @@ tree : (body : List Event) → Balanced 0 body 0 → Chain body → Rooted SOURC
 tree body b c =
     let n : length (body ++ Finish ∷ []) ≡ suc (length body) = length-append body (Finish ∷ []) ∙ omega arith in
     rw n (rooted SOURCE-FILE body (λ z. omega arith) c (ap (λ (x : Numbers). x .code) (scan-passes body 0 0 b c)))
+
+-- A run that is begun handles its markers well at each of its acts, refused or not: `complete`, `abandon`, `precede` and `extend_to` always
+-- find a start at their marker, and `error` is never called with code 1.
+pub markers-proper : (l : Lent) → notPermitted l ≡ false → Orderly (env (l .kinds) (l .joints)) (actsOf (l .entry) (l .mode)) (view new (l .room))
+markers-proper l h =
+    safe-orderly (env (l .kinds) (l .joints)) (record { kind = kinds-small (l .kinds) (ltb-false _ _ h) }) (actsOf (l .entry) (l .mode)) [] (λ a o. Opens [] [] o) (view new (l .room)) fit-new (holds-none (l .room)) (orderly (l .entry) (l .mode) .runs [] [] base) (begins (l .room))
+
+-- Its token events cover the tokens that it has consumed, and each error says what it stood at: of code 1 it has found the kind of the token
+-- behind those covered before it, EOF behind the last, and of other codes nothing.
+pub run-covered : (l : Lent) → notPermitted l ≡ false → Covers (env (l .kinds) (l .joints)) 0 (events (ran l)) (ran l .p .pos)
+run-covered l h = covered (env (l .kinds) (l .joints)) (actsOf (l .entry) (l .mode)) (l .room) (markers-proper l h)
 
 module _ (l : Lent) (done : parsed l .answer .code ≡ 0) where
   count-said : parsed l .answer .events ≡ ran l .p .len
@@ -104,11 +114,11 @@ module _ (l : Lent) (done : parsed l .answer .code ≡ 0) where
   list-read : eventsOf (handed (parsed l)) ≡ events (ran l)
   list-read = rw (handed-list l done) (events-words (events (ran l)) (well-made l done .2 .sounds))
 
-  -- The token steps cover the tokens consumed, in order, each with its kind or glue,
+  -- The token steps cover the tokens consumed, in order, each with its kind or glue, and each error of code 1 says what stands behind them,
   pub steps-cover : CoverSteps (env (l .kinds) (l .joints)) 0 (stepsIn (parsed l)) (parsed l .answer .place)
   steps-cover =
       rw (list-read, place-said)
-      (cover-steps (env (l .kinds) (l .joints)) (events (ran l)) 0 (ran l .p .pos) (covered (env (l .kinds) (l .joints)) (actsOf (l .entry) (l .mode)) (l .room)))
+      (cover-steps (env (l .kinds) (l .joints)) (events (ran l)) 0 (ran l .p .pos) (run-covered l (done-when l done 4)))
 
   -- and their raw counts add up to the tokens consumed.
   pub raw-counts : rawSum (stepsIn (parsed l)) ≡ parsed l .answer .place
@@ -154,9 +164,3 @@ none-open entry mode = weaken (actsOf entry mode) [] (λ a o. Opens [] [] o) (λ
     shut-all : {o : Marks} → Opens [] [] o → AllShut o
     shut-all base = tt
     shut-all (extra p) = shut-all p
-
--- A run that is begun handles its markers well at each of its acts, refused or not: `complete`, `abandon`, `precede` and `extend_to` always
--- find a start at their marker.
-pub markers-proper : (l : Lent) → notPermitted l ≡ false → Orderly (env (l .kinds) (l .joints)) (actsOf (l .entry) (l .mode)) (view new (l .room))
-markers-proper l h =
-    safe-orderly (env (l .kinds) (l .joints)) (record { kind = kinds-small (l .kinds) (ltb-false _ _ h) }) (actsOf (l .entry) (l .mode)) [] (λ a o. Opens [] [] o) (view new (l .room)) fit-new (holds-none (l .room)) (orderly (l .entry) (l .mode) .runs [] [] base) (begins (l .room))

@@ -11,7 +11,7 @@ use Rattle.event.specs.declared.Event.{Event}
 use Rattle.event.specs.declared.Event.the-variants.{Start, Finish, Token, Error, NoEvent}
 use Rattle.event.specs.Event.{distance}
 use Rattle.records.specs.declared.Step.{Step}
-use Rattle.records.specs.declared.Step.the-variants.{Enter as enter, Leave as leave, Token as taken, Error as failed}
+use Rattle.records.specs.declared.Step.the-variants.{Enter as enter, Leave as leave, Token as taken, Error as failed, Expected as wanted}
 use Rattle.lists.specs.Check.{lands, scan}
 use Rattle.turns.specs.Process.{Parent, follow, entered, turn, turns, stepsOf}
 use Rattle.listed.specs.Shape.{closes}
@@ -30,7 +30,7 @@ chain-follow p (e ∷ es) zero c = c
 chain-follow p (Start k f ∷ es) (suc zero) c = (refl, chain-follow (suc p) es f (c .1))
 chain-follow p (Finish ∷ es) (suc zero) c = c
 chain-follow p (Token k n ∷ es) (suc zero) c = c
-chain-follow p (Error x y ∷ es) (suc zero) c = c
+chain-follow p (Error x y f ∷ es) (suc zero) c = c
 chain-follow p (NoEvent a b ∷ es) (suc zero) c = c
 chain-follow p (e ∷ es) (suc (suc d)) c = (lands-follow (suc p) es (suc d) (distance e) ∙ c .0, chain-follow (suc p) es (suc d) (c .1))
 
@@ -46,7 +46,7 @@ follow-before p (Start k f ∷ es) us (suc zero) c h =
     (ap (λ (xs : List Parent). record { place = p; kind = k } ∷ xs) (r .0), ap (λ (xs : List Event). Start 0 0 ∷ xs) (r .1))
 follow-before p (Finish ∷ es) us (suc zero) c h = apart h
 follow-before p (Token k n ∷ es) us (suc zero) c h = apart h
-follow-before p (Error x y ∷ es) us (suc zero) c h = apart h
+follow-before p (Error x y f ∷ es) us (suc zero) c h = apart h
 follow-before p (NoEvent a b ∷ es) us (suc zero) c h = apart h
 follow-before p (e ∷ es) us (suc (suc d)) c h = let r = follow-before (suc p) es us (suc d) (c .1) h in (r .0, ap (λ (xs : List Event). e ∷ xs) (r .1))
 
@@ -55,7 +55,7 @@ unfolding turn
 turn-before p (Start k d) es us c = let r = follow-before (suc p) es us d (c .1) (c .0) in (ap (λ (xs : List Parent). entered (record { place = p; kind = k } ∷ xs)) (r .0), r .1)
 turn-before p Finish es us c = (refl, refl)
 turn-before p (Token k n) es us c = (refl, refl)
-turn-before p (Error x y) es us c = (refl, refl)
+turn-before p (Error x y f) es us c = (refl, refl)
 turn-before p (NoEvent a b) es us c = (refl, refl)
 
 chain-turn : (p : ℕ) (e : Event) (es : List Event) → Chain (e ∷ es) → Chain (turn p e es .left)
@@ -63,7 +63,7 @@ unfolding turn
 chain-turn p (Start k d) es c = chain-follow (suc p) es d (c .1)
 chain-turn p Finish es c = c .1
 chain-turn p (Token k n) es c = c .1
-chain-turn p (Error x y) es c = c .1
+chain-turn p (Error x y f) es c = c .1
 chain-turn p (NoEvent a b) es c = c .1
 
 -- a finish behind a list comes last
@@ -86,6 +86,7 @@ closes-last (leave ∷ ss) r zero h = apart h
 closes-last (leave ∷ ss) r (suc o) h = closes-last ss (suc r) o h
 closes-last (taken k n ∷ ss) r o h = closes-last ss (suc r) o h
 closes-last (failed c a ∷ ss) r o h = closes-last ss (suc r) o h
+closes-last (wanted k f ∷ ss) r o h = closes-last ss (suc r) o h
 
 first-alone : (p k : ℕ) (es : List Event) → (k ≡ 0 → ⊥) → (stepsOf (turn p (Start k 0) es .steps) ≡ enter k ∷ []) × (turn p (Start k 0) es .left ≡ es)
 unfolding turn follow entered

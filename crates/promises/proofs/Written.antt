@@ -9,15 +9,15 @@ use lib.ListN.{length, take, replicate}
 use lib.Seq.{take-at}
 use borrow.Author.Tests.{eqb-false, leb-true, ltb-true}
 use Rattle.records.specs.declared.Step.{Step}
-use Rattle.records.specs.declared.Step.the-variants.{Enter as enter}
-use Rattle.records.specs.Record.{bytes, over, Sounds}
+use Rattle.records.specs.declared.Step.the-variants.{Enter as enter, Error as error, Expected as expected}
+use Rattle.records.specs.Record.{bytes, over, Sound, Sounds}
 use Rattle.laws.proofs.Tests.{by-test}
 use Rattle.event.specs.declared.Event.{Event}
 use Rattle.event.specs.declared.Event.the-variants.{Start, Finish, Token, Error, NoEvent}
-use Rattle.event.specs.Event.{decode, eventsOf, wordsOf, tombstone}
+use Rattle.event.specs.Event.{errorOf, decode, eventsOf, wordsOf, tombstone}
 use Rattle.lists.specs.Answer.{says}
 use Rattle.lists.specs.Check.{checked}
-use Rattle.own.specs.Own.{enters, own, need}
+use Rattle.own.specs.Own.{enters, reports, own, need}
 use Rattle.turns.specs.Process.{Parent, placed, follow, entered, turn, turns, process, stepsOf}
 use Rattle.events.specs.Resolve.{ends, resolved}
 use Rattle.events.proofs.Passing.{process-need}
@@ -43,13 +43,20 @@ Fairs (e ∷ es) = Fair e × Fairs es
 enters-sound : (k : ℕ) → k < 65536 → Sounds (enters k)
 enters-sound k h = by-test Sounds (eqb k 0) [] (enter k ∷ []) (λ _. tt) (λ _. (h, tt))
 
+reports-sound : (c x f : ℕ) → c < 65536 → x < 65536 → f < 65536 → Sound (reports c x f)
+reports-sound c x f h l m = by-test Sound (eqb c 1) (expected x f) (error c x) (λ _. (l, m)) (λ _. (h, l))
+
 decode-fair : (a b : ℕ) → Fair (decode a b)
-unfolding decode
+unfolding decode errorOf
 decode-fair a b =
     by-test Fair (eqb (a / 65536) 1) _ _ (λ _. enters-sound (a % 65536) (omega arith)) (λ _.
     by-test Fair (eqb (a / 65536) 2) _ _ (λ _. by-test Fair (eqb (a % 65536) 0) _ _ (λ _. by-test Fair (eqb b 0) _ _ (λ _. (tt, tt)) (λ _. tt)) (λ _. tt)) (λ _.
     by-test Fair (eqb (a / 65536) 3) _ _ (λ _. by-test Fair (eqb b 0) _ _ (λ _. tt) (λ z. by-test Fair (leb b 3) _ _ (λ l. ((omega arith, omega (arith, eqb-false b 0 z), leb-true b 3 l), tt)) (λ _. tt))) (λ _.
-    by-test Fair (eqb (a / 65536) 4) _ _ (λ _. by-test Fair (ltb b 65536) _ _ (λ l. ((omega arith, ltb-true b 65536 l), tt)) (λ _. tt)) (λ _. tt))))
+    by-test Fair (eqb (a / 65536) 4) _ _
+    (λ _. by-test Fair (eqb (a % 65536) 1) _ _
+    (λ _. by-test Fair (ltb b 4294967296) _ _ (λ l. let g : b < 4294967296 = ltb-true b 4294967296 l in (reports-sound (a % 65536) (b % 65536) (b / 65536) (omega arith) (omega arith) (omega arith), tt)) (λ _. tt))
+    (λ _. by-test Fair (ltb b 65536) _ _ (λ l. (reports-sound (a % 65536) b 0 (omega arith) (ltb-true b 65536 l) (omega arith), tt)) (λ _. tt)))
+    (λ _. tt))))
 
 events-fair : (ws : List ℕ) → Fairs (eventsOf ws)
 unfolding eventsOf
@@ -69,7 +76,7 @@ follow-fair p (e ∷ es) zero h = (tt, h)
 follow-fair p (Start k f ∷ es) (suc zero) h = let r = follow-fair (suc p) es f (h .1) in ((h .0, r .0), (tt, r .1))
 follow-fair p (Finish ∷ es) (suc zero) h = (tt, h)
 follow-fair p (Token k n ∷ es) (suc zero) h = (tt, h)
-follow-fair p (Error c x ∷ es) (suc zero) h = (tt, h)
+follow-fair p (Error c x f ∷ es) (suc zero) h = (tt, h)
 follow-fair p (NoEvent a b ∷ es) (suc zero) h = (tt, h)
 follow-fair p (e ∷ es) (suc (suc d)) h = let r = follow-fair (suc p) es (suc d) (h .1) in (r .0, (h .0, r .1))
 
@@ -87,7 +94,7 @@ unfolding turn
 turn-sound p (Start k d) es h g = let r = follow-fair (suc p) es d g in (entered-sound (record { place = p; kind = k } ∷ follow (suc p) es d .parents) (h, r .0), r .1)
 turn-sound p Finish es h g = (h, g)
 turn-sound p (Token k n) es h g = (h, g)
-turn-sound p (Error c x) es h g = (h, g)
+turn-sound p (Error c x f) es h g = (h, g)
 turn-sound p (NoEvent a b) es h g = (tt, g)
 
 turns-sound : (n p : ℕ) (es : List Event) → Fairs es → Sounds (stepsOf (turns n p es .steps))

@@ -4,7 +4,7 @@ use mathlib.Core.Path.{_≡_}
 use mathlib.Core.List.{List, [], _∷_, _++_}
 use lib.ListN.{length, take, drop}
 use Rattle.records.specs.declared.Step.{Step}
-use Rattle.records.specs.declared.Step.the-variants.{Enter, Leave, Token, Error}
+use Rattle.records.specs.declared.Step.the-variants.{Enter, Leave, Token, Error, Expected}
 
 -- a number in two bytes, little-endian
 abbrev pub le16 : ℕ → List ℕ
@@ -19,10 +19,11 @@ recordOf (Enter k) = framed 1 (le16 k)
 recordOf Leave = framed 2 []
 recordOf (Token k n) = framed 3 (le16 k ++ (n ∷ []))
 recordOf (Error c x) = framed 4 (le16 c ++ le16 x)
+recordOf (Expected k f) = framed 5 (le16 1 ++ le16 k ++ le16 f)
 
 -- no record has more bytes than these
 abbrev pub stepBytes : ℕ
-stepBytes = 8
+stepBytes = 10
 
 unfoldable pub bytes : List Step → List ℕ
 bytes [] = []
@@ -34,6 +35,7 @@ Sound (Enter k) = k < 65536
 Sound Leave = Unit {0}
 Sound (Token k n) = (k < 65536) × (0 < n) × (n ≤ 3)
 Sound (Error c x) = (c < 65536) × (x < 65536)
+Sound (Expected k f) = (k < 65536) × (f < 65536)
 
 abbrev pub Sounds : List Step → Type 0
 Sounds [] = Unit {0}

@@ -6,12 +6,14 @@ ghost use mathlib.Core.List.{[], _∷_, _++_};
 ghost use lib.ListN.{length};
 ghost use Rattle.records.specs.Record.{le16, recordOf, Wrote};
 
-// A tree step. The numbers are a kind; a kind and the raw count; a code and its argument.
+// A tree step, one for each record kind. The numbers are a kind; a kind and the raw count; a code and its argument; the kinds expected and
+// found by the error with code 1.
 pub enum Step {
     Enter(u16),
     Leave,
     Token(u16, u8),
     Error(u16, u16),
+    Expected(u16, u16),
 }
 
 // The first four bytes of each record as one number: its payload's length, and 65,536 times its kind.
@@ -23,6 +25,8 @@ pub const TOKEN: u32 = 196611;
 
 pub const ERROR: u32 = 262148;
 
+pub const EXPECTED: u32 = 327686;
+
 // The bytes of a step's record.
 pub fn size(s: Step) -> usize
     ensures { λ r. ⌜ r ≡ length (recordOf s) ⌝ }
@@ -32,6 +36,7 @@ pub fn size(s: Step) -> usize
         Step::Leave => 4,
         Step::Token(_, _) => 7,
         Step::Error(_, _) => 8,
+        Step::Expected(_, _) => 10,
     }
 }
 
@@ -81,6 +86,12 @@ pub fn put(out: &mut [u8], at: usize, s: Step) -> usize
             let p = put_head(out, at, 4, 4);
             let q = put_u16(out, p, code);
             put_u16(out, q, argument)
+        }
+        Step::Expected(kind, found) => {
+            let p = put_head(out, at, 6, 5);
+            let q = put_u16(out, p, 1);
+            let r = put_u16(out, q, kind);
+            put_u16(out, r, found)
         }
     }
 }

@@ -30,7 +30,7 @@ fn words_room(w: u32) -> [u32; WORDS]
 }
 
 fn step_room() -> [u8; BYTES]
-    ensures { λ r. ⌜ 524296 ≡ length r ⌝ }
+    ensures { λ r. ⌜ 655368 ≡ length r ⌝ }
 {
     [BYTE; BYTES]
 }
@@ -118,7 +118,7 @@ fn resolve_in(words: &mut [u32], kept: &[u32], room: &mut [u8]) {
 // Resolves a list in a room of so many bytes. What the list was is read off the line again.
 fn run_resolve(line: &[u8], list: usize, words: &mut [u32], size: usize)
     requires { ⌜ list ≤ length (now line) ⌝ }
-    requires { ⌜ size ≤ 524296 ⌝ }
+    requires { ⌜ size ≤ 655368 ⌝ }
 {
     let mut kept = words_room(0);
     let k = words_at(line, list, &mut kept);

@@ -18,7 +18,7 @@ use Rattle.event.specs.Event.{holds, isStart, isBare, withKind, withDistance}
 use Rattle.runtime.specs.declared.parser.Parser.{Parser}
 use Rattle.runtime.specs.State.{St, mostLooks, live, refusal, holding, looked, halted, stopNumber, numbers, refuse, rewritten, popped, eventAt, pushEvent, enough, consume, consumed, doBump, named, linked, dropped, gap}
 use Rattle.runtime.specs.Cover.{events}
-use Rattle.runtime.specs.Acts.{Act, Act.looks, Act.peeks, Act.eats, Act.takes, Act.starts, Act.completes, Act.abandons, Act.precedes, Act.extends, Act.fails, Act.stops, Act.asks, Answer, kindAhead, nthSees, sees, stopped, step, Acts, Acts.done, Acts.act, run}
+use Rattle.runtime.specs.Acts.{Act, Act.looks, Act.peeks, Act.eats, Act.takes, Act.starts, Act.completes, Act.abandons, Act.precedes, Act.extends, Act.fails, Act.lacks, Act.stops, Act.asks, Answer, kindAhead, nthSees, sees, stopped, step, Acts, Acts.done, Acts.act, run}
 use Rattle.laws.proofs.Tests.{by-test, apart}
 use Rattle.runtime.proofs.Kept.{found}
 use Rattle.runs.proofs.Covered.{events-added, events-popped}
@@ -156,7 +156,11 @@ alike-step e (completes m k) s t h = (refl, push-alike (named m k s) (named m k 
 alike-step e (abandons m) s t h = (refl, dropped-alike s t h m)
 alike-step e (precedes m) s t h = (length-same s t h, linked-alike m (gap m (s .p .len)) (gap m (t .p .len)) _ _ (ap (gap m) (length-same s t h)) (push-alike s t h (Start TOMBSTONE 0)))
 alike-step e (extends to m) s t h = (refl, linked-alike m (gap m to) (gap m to) s t refl h)
-alike-step e (fails c a) s t h = (refl, push-alike s t h (Error c a))
+alike-step e (fails c a) s t h = (refl, push-alike s t h (Error c a 0))
+alike-step e (lacks k) s t h = (
+  refl,
+  subst (λ (p : Parser). Alike (pushEvent (Error 1 k (kindAhead e (s .p) 0)) s) (pushEvent (Error 1 k (kindAhead e p 0)) t)) (h .same) (push-alike s t h (Error 1 k (kindAhead e (s .p) 0))),
+)
 alike-step e (stops w) s t h = (refl, halt-alike s t h (stopNumber w))
 alike-step e asks s t h = (ap stopped (h .same), h)
 

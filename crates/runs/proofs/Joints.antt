@@ -17,7 +17,7 @@ use Rattle.input.specs.Input.{env, seen, isJoint}
 use Rattle.input.specs.Glue.{gluedKinds, partsIn, partsOf, rawCount, standsAt}
 use Rattle.input.proofs.Reading.{both-true}
 use Rattle.runtime.specs.State.{St, doBump}
-use Rattle.runtime.specs.Acts.{Act, Act.looks, Act.peeks, Act.eats, Act.takes, Act.starts, Act.completes, Act.abandons, Act.precedes, Act.extends, Act.fails, Act.stops, Act.asks, Answer, step, Acts, Acts.done, Acts.act, run}
+use Rattle.runtime.specs.Acts.{Act, Act.looks, Act.peeks, Act.eats, Act.takes, Act.starts, Act.completes, Act.abandons, Act.precedes, Act.extends, Act.fails, Act.lacks, Act.stops, Act.asks, Answer, step, Acts, Acts.done, Acts.act, run}
 
 -- the joint words agree on each token that another follows
 abbrev pub Agree : List ℕ → List ℕ → List ℕ → Type 0
@@ -84,6 +84,7 @@ module _ (kinds a b : List ℕ) (agree : Agree kinds a b) where
   joints-step (precedes m) s = refl
   joints-step (extends to m) s = refl
   joints-step (fails c x) s = refl
+  joints-step (lacks k) s = refl
   joints-step (stops w) s = refl
   joints-step asks s = refl
 

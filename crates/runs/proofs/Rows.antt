@@ -14,7 +14,7 @@ use Rattle.input.specs.Input.{Env, env, seen}
 use Rattle.input.specs.Glue.{partsOf, standsAt}
 use Rattle.event.specs.declared.Event.{Event}
 use Rattle.event.specs.declared.Event.the-variants.{Start, Finish, Token, Error}
-use Rattle.event.specs.Event.{encode, decode, eventsOf, leftOver, wordsOf}
+use Rattle.event.specs.Event.{errorOf, encode, decode, eventsOf, leftOver, wordsOf}
 use Rattle.runtime.specs.State.{St, view, new, looked, halted, eventAt, pushEvent, consume, doBump, named, linked, dropped}
 use Rattle.runtime.specs.Cover.{events}
 use Rattle.runtime.specs.Acts.{Acts, step, run, _>>=_, _>>_, atTs, bump, bumpAny, expect, errRecover, errAndBump, must, goesOn}
@@ -69,12 +69,12 @@ outer = do
 abbrev rows : List Row
 rows =
     -- an error at the end of the input: a node without a token, three lookups
-    record { acts = errRecover 2 EMPTY; kinds = []; joints = 0; room = 6; told = record { pos = 0; events = Start ERROR 0 ∷ Error 2 0 ∷ Finish ∷ []; looks = 3; refused = 0 } }
+    record { acts = errRecover 2 EMPTY; kinds = []; joints = 0; room = 6; told = record { pos = 0; events = Start ERROR 0 ∷ Error 2 0 0 ∷ Finish ∷ []; looks = 3; refused = 0 } }
     -- the same in a room of two events: nothing is closed
-    ∷ record { acts = errRecover 2 EMPTY; kinds = []; joints = 0; room = 5; told = record { pos = 0; events = Start ERROR 0 ∷ Error 2 0 ∷ []; looks = 3; refused = 5 } }
+    ∷ record { acts = errRecover 2 EMPTY; kinds = []; joints = 0; room = 5; told = record { pos = 0; events = Start ERROR 0 ∷ Error 2 0 0 ∷ []; looks = 3; refused = 5 } }
     -- at `{` and at a kind of the set, the error alone
-    ∷ record { acts = errRecover 2 EMPTY; kinds = L-CURLY ∷ []; joints = 0; room = 6; told = record { pos = 0; events = Error 2 0 ∷ []; looks = 1; refused = 0 } }
-    ∷ record { acts = errRecover 2 ITEM-RECOVERY-SET; kinds = SEMICOLON ∷ []; joints = 0; room = 6; told = record { pos = 0; events = Error 2 0 ∷ []; looks = 2; refused = 0 } }
+    ∷ record { acts = errRecover 2 EMPTY; kinds = L-CURLY ∷ []; joints = 0; room = 6; told = record { pos = 0; events = Error 2 0 0 ∷ []; looks = 1; refused = 0 } }
+    ∷ record { acts = errRecover 2 ITEM-RECOVERY-SET; kinds = SEMICOLON ∷ []; joints = 0; room = 6; told = record { pos = 0; events = Error 2 0 0 ∷ []; looks = 2; refused = 0 } }
     -- `>>` is consumed where the two are joint, and not where they are not; `>>=` needs both joints
     ∷ record { acts = bump SHR; kinds = R-ANGLE ∷ R-ANGLE ∷ []; joints = 1; room = 2; told = record { pos = 2; events = Token SHR 2 ∷ []; looks = 0; refused = 0 } }
     ∷ record { acts = bump SHR; kinds = R-ANGLE ∷ R-ANGLE ∷ []; joints = 0; room = 2; told = record { pos = 0; events = []; looks = 0; refused = 8 } }
@@ -84,8 +84,10 @@ rows =
     ∷ record { acts = bump R-ANGLE; kinds = R-ANGLE ∷ R-ANGLE ∷ []; joints = 1; room = 2; told = record { pos = 1; events = Token R-ANGLE 1 ∷ []; looks = 0; refused = 0 } }
     -- a token whose event finds no room is not consumed
     ∷ record { acts = bumpAny; kinds = IDENT ∷ []; joints = 0; room = 1; told = record { pos = 0; events = []; looks = 1; refused = 5 } }
-    -- a kind that is due and does not come
-    ∷ record { acts = expect SEMICOLON >> acts.done tt; kinds = IDENT ∷ []; joints = 0; room = 2; told = record { pos = 0; events = Error 1 SEMICOLON ∷ []; looks = 0; refused = 0 } }
+    -- a kind that is due and does not come: what stands there is recorded, the end too, and of a joint `==` its first token
+    ∷ record { acts = expect SEMICOLON >> acts.done tt; kinds = IDENT ∷ []; joints = 0; room = 2; told = record { pos = 0; events = Error 1 SEMICOLON IDENT ∷ []; looks = 0; refused = 0 } }
+    ∷ record { acts = expect SEMICOLON >> acts.done tt; kinds = []; joints = 0; room = 2; told = record { pos = 0; events = Error 1 SEMICOLON EOF ∷ []; looks = 0; refused = 0 } }
+    ∷ record { acts = expect SEMICOLON >> acts.done tt; kinds = EQ ∷ EQ ∷ []; joints = 1; room = 2; told = record { pos = 0; events = Error 1 SEMICOLON EQ ∷ []; looks = 0; refused = 0 } }
     -- EOF is seen past the last token, and never consumed
     ∷ record { acts = bump EOF; kinds = []; joints = 0; room = 2; told = record { pos = 0; events = []; looks = 0; refused = 8 } }
     -- an abandoned start goes where it is last, and stays where it is not
@@ -99,7 +101,7 @@ rows =
     ∷ []
 
 pub all-hold : map ends rows ≡ map (λ (r : Row). r .told) rows
-unfolding run step _>>=_ errRecover bump bumpAny expect atTs bit oneOf seen standsAt partsOf decode eventsOf leftOver looked halted eventAt pushEvent consume doBump named linked dropped
+unfolding run step _>>=_ errRecover bump bumpAny expect atTs bit oneOf seen standsAt partsOf errorOf decode eventsOf leftOver looked halted eventAt pushEvent consume doBump named linked dropped
 all-hold = refl
 
 -- An edge: the acts, the tokens, and the state and the room's words before; then what the acts have answered, one after the other (1 for
@@ -321,7 +323,7 @@ stays = do
 
 abbrev edges : List Edge
 edges =
-    record { acts = noToken; tokens = env [] []; before = new; room = replicate 13 7; answers = 1 ∷ 1 ∷ 1 ∷ 0 ∷ 0 ∷ 0 ∷ 0 ∷ 0 ∷ 1 ∷ 4 ∷ []; after = numbers 0 7 7 4 8; left = 262145 ∷ 3 ∷ 65650 ∷ 0 ∷ 262146 ∷ 0 ∷ 131072 ∷ 0 ∷ replicate 5 7 }
+    record { acts = noToken; tokens = env [] []; before = new; room = replicate 13 7; answers = 1 ∷ 1 ∷ 1 ∷ 0 ∷ 0 ∷ 0 ∷ 0 ∷ 0 ∷ 1 ∷ 4 ∷ []; after = numbers 0 7 7 4 8; left = 262145 ∷ 65539 ∷ 65650 ∷ 0 ∷ 262146 ∷ 0 ∷ 131072 ∷ 0 ∷ replicate 5 7 }
     ∷ record { acts = lastToken; tokens = env (IDENT ∷ SEMICOLON ∷ []) (0 ∷ []); before = new; room = replicate 8 0; answers = 3 ∷ 1 ∷ 1 ∷ 1 ∷ 0 ∷ 1 ∷ 1 ∷ 1 ∷ []; after = numbers 2 2 5 2 8; left = 196723 ∷ 1 ∷ 196611 ∷ 1 ∷ replicate 4 0 }
     -- rooms of no word, of one, of one event, of two and a word left over, of three, of four
     ∷ record { acts = node; tokens = env (IDENT ∷ IDENT ∷ []) (0 ∷ []); before = new; room = []; answers = 0 ∷ 0 ∷ []; after = numbers 0 0 0 0 5; left = [] }

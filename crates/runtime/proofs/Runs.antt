@@ -19,7 +19,7 @@ use Rattle.input.proofs.Reading.{few-parts}
 use Rattle.runtime.specs.State.{St, mostLooks, refusal, counted, consumed, Fit}
 use Rattle.runtime.specs.Cover.{Stands}
 use Rattle.runtime.specs.Acts.{Acts, run, left}
-use Rattle.runtime.proofs.Kept.{Kept, kept-run}
+use Rattle.runtime.proofs.Kept.{KeptBy, Kept, kept-run}
 
 some-tokens : {e : Env} {i k n : ℕ} → Stands e i k n → 1 ≤ n
 some-tokens t = omega (arith, t .many, few-parts (t .parts) .0)
@@ -63,7 +63,7 @@ size-run e m s =
 abbrev pub Held : St → Type 0
 Held s = s .p .len ≤ length (s .room)
 
-pub helds : (e : Env) → Kept e Held
+pub helds : (e : Env) {C : ℕ → Type 0} → KeptBy e C Held
 helds e =
     record {
       refusing = λ n r z h. h;

@@ -6,7 +6,7 @@ use kinds::syntax_kind_enum as k;
 ghost use mathlib.Core.Path.{_≡_};
 ghost use Prim.Native.Nat.{_+_, _≤_, _<_};
 ghost use Rattle.kinds.specs.Sets.{kindsOf};
-ghost use Rattle.input.specs.Input.{env};
+ghost use Rattle.input.specs.Input.{env, seen};
 ghost use Rattle.event.specs.Event.{Sound, isStart, isBare};
 ghost use Rattle.runtime.specs.State as state;
 ghost use Rattle.runtime.specs.State.{view, Fit, Begins, Moves, eventAt};
@@ -128,6 +128,15 @@ impl Parser {
         self.refuse(n)
     }
 
+    // The kind n tokens ahead, as it stands there: no lookup.
+    fn ahead(self, kinds: &[u16], n: usize) -> u16
+        requires { ⌜ Fit self ⌝ }
+        requires { ⌜ n ≤ 3 ⌝ }
+        ensures { λ r. ⌜ r ≡ seen (now (kinds .entry)) (self .refused) (self .pos + n) ⌝ }
+    {
+        input::kind(kinds, self.refused, self.pos + n)
+    }
+
     // The kind n tokens ahead: one lookup.
     pub fn nth(self, kinds: &[u16], joints: &[u64], n: usize) -> Looked
         requires { ⌜ Fit self ⌝ }
@@ -141,7 +150,7 @@ impl Parser {
             };
         }
         if self.since < MOST_LOOKS {
-            let kind = input::kind(kinds, self.refused, self.pos + n);
+            let kind = self.ahead(kinds, n);
             let p = Parser {
                 pos: self.pos,
                 since: self.since + 1,
@@ -227,6 +236,9 @@ impl Parser {
         requires { ⌜ (1 ≤ n) × (n ≤ 3) ⌝ }
         ensures { λ r. ⌜ view r (now (room .exit)) ≡ state.doBump (env (now (kinds .entry)) (now (joints .entry))) kind n (view self (now (room .entry))) ⌝ }
     {
+        if self.refused != 0 {
+            return self;
+        }
         if input::enough(kinds, self.pos + n) {
             let p = self.push_event(room, Event::Token(kind, n as u8));
             if p.refused != 0 {
@@ -239,9 +251,6 @@ impl Parser {
                 len: p.len,
                 refused: p.refused,
             };
-        }
-        if self.refused != 0 {
-            return self;
         }
         self.refuse(8)
     }
@@ -294,7 +303,22 @@ impl Parser {
         requires { ⌜ Fit self ⌝ }
         ensures { λ r. ⌜ Steps (acts.error code arg) (view self (now (room .entry))) tt (view r (now (room .exit))) ⌝ }
     {
-        self.push_event(room, Event::Error(code, arg))
+        self.push_event(room, Event::Error(code, arg, 0))
+    }
+
+    // Records that a kind was expected, and the kind that stands here: no lookup.
+    pub fn error_expected(
+        self,
+        kinds: &[u16],
+        joints: &[u64],
+        room: &mut [u32],
+        kind: u16,
+    ) -> Parser
+        requires { ⌜ Fit self ⌝ }
+        ensures { λ r. ⌜ Does (env (now (kinds .entry)) (now (joints .entry))) (acts.errorExpected kind) (view self (now (room .entry))) tt (view r (now (room .exit))) ⌝ }
+    {
+        let found = self.ahead(kinds, 0);
+        self.push_event(room, Event::Error(1, kind, found))
     }
 
     pub fn expect(self, kinds: &[u16], joints: &[u64], room: &mut [u32], kind: u16) -> Told
@@ -306,7 +330,7 @@ impl Parser {
         if t.yes {
             return Told { p, yes: true };
         }
-        let q = p.error(room, 1, kind);
+        let q = p.error_expected(kinds, joints, room, kind);
         Told { p: q, yes: false }
     }
 

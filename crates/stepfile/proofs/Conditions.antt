@@ -23,7 +23,7 @@ use Rattle.stepfile.specs.Nesting.{nest}
 use Rattle.stepfile.specs.File.{ended, fileRead}
 use Rattle.stepfile.specs.OneByOne.{Walked, walkedIn, walked, judged}
 use Rattle.stepfile.specs.Good.{Bytes, enters, leaves, Good, Upto, Cut, Unsound, Breaks, Breaks.again, Breaks.below, Breaks.none, Breaks.inside, Verdict, Verdict.good, Verdict.cut, Verdict.unsound, Verdict.unnested}
-use Rattle.stepfile.proofs.Fronts.{a-token, no-record}
+use Rattle.stepfile.proofs.Fronts.{a-token, an-expected, no-record}
 use Rattle.stepfile.proofs.Inverse.{behind-step, record-there}
 use Rattle.stepfile.proofs.Nestings.{ended-none, ended-closed, ended-open}
 use Rattle.stepfile.proofs.Walks.{shorter, agree, read-back, walked-first}
@@ -114,7 +114,7 @@ upto bs ss rest d e h f =
     let q = reaches-proceeds ss 0 0 d e .0 in
     record { steps = ss; rest = rest; sound = h; file = f; place = refl; begins = λ i z l. omega (arith, q .begins i (omega arith) l); never = λ i l. omega (arith, q .never i l) }
 
--- a record whose kind, length or count is none that is sound
+-- a record whose kind, length, count or code is none that is sound
 unsound-at : (bs : List ℕ) (p : ℕ) (u : Upto bs p) → 0 < length (u .rest) → 4 + two (u .rest) 0 ≤ length (u .rest)
     → stepOf (two (u .rest) 2) (two (u .rest) 0) (u .rest) ≡ F.Unsound → Unsound bs p
 unfolding stepOf
@@ -127,6 +127,7 @@ unsound-at bs p u h l e =
       no-leave = λ k z. sound-not Leave (sym (rw (k, z)) ∙ e);
       no-token = λ k z m n. sound-not _ (sym (ap (λ (x : ℕ). stepOf x (two (u .rest) 0) (u .rest)) k ∙ ap (λ (x : ℕ). stepOf 3 x (u .rest)) z ∙ a-token (u .rest) (getD (u .rest) 6 0) refl (λ y. omega arith) n) ∙ e);
       no-error = λ k z. sound-not (Error (two (u .rest) 4) (two (u .rest) 6)) (sym (rw (k, z)) ∙ e);
+      no-expected = λ k z o. sound-not _ (sym (ap (λ (x : ℕ). stepOf x (two (u .rest) 0) (u .rest)) k ∙ ap (λ (x : ℕ). stepOf 5 x (u .rest)) z ∙ an-expected (u .rest) o) ∙ e);
     }
 
 -- a whole record is a step or unsound
@@ -136,7 +137,8 @@ either P kind size bs a b =
     by-test P (eqb kind 1) _ _ (λ _. one 2 _) (λ _.
     by-test P (eqb kind 2) _ _ (λ _. one 0 _) (λ _.
     by-test P (eqb kind 3) _ _ (λ _. by-test P (eqb size 3) _ _ (λ _. by-test P (eqb (getD bs 6 0) 0) _ _ (λ _. b) (λ _. by-test P (ltb 3 (getD bs 6 0)) _ _ (λ _. b) (λ _. a _))) (λ _. b)) (λ _.
-    by-test P (eqb kind 4) _ _ (λ _. one 4 _) (λ _. b))))
+    by-test P (eqb kind 4) _ _ (λ _. one 4 _) (λ _.
+    by-test P (eqb kind 5) _ _ (λ _. by-test P (eqb size 6) _ _ (λ _. by-test P (eqb (two bs 4) 1) _ _ (λ _. a _) (λ _. b)) (λ _. b)) (λ _. b)))))
   where
     one : (n : ℕ) (s : Step) → P (cond (eqb size n) (F.Sound s) F.Unsound)
     one n s = by-test P (eqb size n) _ _ (λ _. a s) (λ _. b)
@@ -267,7 +269,7 @@ gives bs n (cut p c) =
 gives bs n (unsound p c) =
     let u = c .upto in
     let r = proceeds bs p u in
-    let e = front-whole (u .rest) (c .some) (c .whole) ∙ no-record (u .rest) (two (u .rest) 2) (two (u .rest) 0) (c .no-enter) (c .no-leave) (c .no-token) (c .no-error) in
+    let e = front-whole (u .rest) (c .some) (c .whole) ∙ no-record (u .rest) (two (u .rest) 2) (two (u .rest) 0) (c .no-enter) (c .no-leave) (c .no-token) (c .no-error) (c .no-expected) in
     from-there bs p u (r .past) (r .opens) ∙ rw (stops (length (u .rest)) (u .rest) F.Unsound e (λ s q. let z : _≡_ {A = ℕ} 0 1 = cc in omega arith), e)
 gives bs n (unnested p c) = by (c .upto) (proceeds bs p (c .upto)) (c .breaks)
   where

@@ -10,7 +10,7 @@ use lib.ListN.{length, getD, take, length-append}
 use lib.Seq.{length-take-le, take-append-le, take-append-add, getD-take}
 use borrow.Author.Tests.{eq-eqb, ne-eqb, eqb-true, eqb-false, ltb-true, ltb-false}
 use Rattle.records.specs.declared.Step.{Step}
-use Rattle.records.specs.declared.Step.the-variants.{Enter, Leave, Token, Error}
+use Rattle.records.specs.declared.Step.the-variants.{Enter, Leave, Token, Error, Expected}
 use Rattle.records.specs.Record.{recordOf, bytes, Sounds}
 use Rattle.laws.proofs.Tests.{by-test}
 use Rattle.stepfile.specs.declared.Found.the-variants as F
@@ -33,6 +33,7 @@ two-size (Enter k) = refl
 two-size Leave = refl
 two-size (Token k n) = refl
 two-size (Error c x) = refl
+two-size (Expected k f) = refl
 
 cut-front : (s : Step) (n : ℕ) → 0 < n → n < length (recordOf s) → front (take n (recordOf s)) ≡ F.Cut
 cut-front s n h l = front-cut (take n (recordOf s)) (omega (arith, m)) (on (ltb n 2) refl)

@@ -7,7 +7,7 @@ use mathlib.Core.Bool.{true, false}
 use mathlib.Core.List.{List, [], _∷_, _++_}
 use lib.ListN.{length, take, length-append}
 use Rattle.records.specs.declared.Step.{Step}
-use Rattle.records.specs.declared.Step.the-variants.{Enter, Leave, Token, Error}
+use Rattle.records.specs.declared.Step.the-variants.{Enter, Leave, Token, Error, Expected}
 use Rattle.records.specs.Record.{recordOf, bytes}
 use Rattle.stepfile.specs.declared.Found.{Found}
 use Rattle.stepfile.specs.declared.Nodes.{Nodes}
@@ -35,6 +35,7 @@ enters-cons (Enter k) ss = omega arith
 enters-cons Leave ss = omega arith
 enters-cons (Token k n) ss = omega arith
 enters-cons (Error c x) ss = omega arith
+enters-cons (Expected k f) ss = omega arith
 
 leaves-cons : (s : Step) (ss : List Step) → leaves (s ∷ ss) ≡ leave s + leaves ss
 unfolding leaves
@@ -42,6 +43,7 @@ leaves-cons (Enter k) ss = omega arith
 leaves-cons Leave ss = omega arith
 leaves-cons (Token k n) ss = omega arith
 leaves-cons (Error c x) ss = omega arith
+leaves-cons (Expected k f) ss = omega arith
 
 pub enters-append : (ss ts : List Step) → enters (ss ++ ts) ≡ enters ss + enters ts
 unfolding enters
@@ -68,6 +70,7 @@ passes zero Leave h = absurd (omega arith)
 passes (suc o) Leave h = record { past = o; opens = refl; count = omega arith }
 passes o (Token k n) h = record { past = o; opens = refl; count = omega arith }
 passes o (Error c x) h = record { past = o; opens = refl; count = omega arith }
+passes o (Expected k f) h = record { past = o; opens = refl; count = omega arith }
 
 same-open : (m p : ℕ) → Open m ≡ Open p → m ≡ p
 same-open m p e = cc
@@ -82,6 +85,7 @@ counted zero Leave p e = absurd (not-open p e)
 counted (suc o) Leave p e = omega (arith, same-open o p e)
 counted o (Token k n) p e = omega (arith, same-open o p e)
 counted o (Error c x) p e = omega (arith, same-open o p e)
+counted o (Expected k f) p e = omega (arith, same-open o p e)
 
 -- a record begins where it may when it is the first or a node is open
 begins-after : (r o : ℕ) (s : Step) → (0 < r → 0 < o) → nest r o s ≡ after o s
@@ -209,10 +213,12 @@ why zero zero Leave e = low (omega arith)
 why zero (suc o) Leave e = absurd (not-open _ (sym e))
 why zero o (Token k n) e = absurd (not-open _ (sym e))
 why zero o (Error c x) e = absurd (not-open _ (sym e))
+why zero o (Expected k f) e = absurd (not-open _ (sym e))
 why (suc r) (suc o) (Enter k) e = absurd (not-open _ (sym e))
 why (suc r) (suc o) Leave e = absurd (not-open _ (sym e))
 why (suc r) (suc o) (Token k n) e = absurd (not-open _ (sym e))
 why (suc r) (suc o) (Error c x) e = absurd (not-open _ (sym e))
+why (suc r) (suc o) (Expected k f) e = absurd (not-open _ (sym e))
 
 pub breaks-again : (r : ℕ) (s : Step) → 0 < r → nest r 0 s ≡ Fault
 unfolding nest
@@ -226,11 +232,13 @@ breaks-below zero zero Leave h = refl
 breaks-below zero (suc o) Leave h = absurd (omega arith)
 breaks-below zero o (Token k n) h = absurd (omega arith)
 breaks-below zero o (Error c x) h = absurd (omega arith)
+breaks-below zero o (Expected k f) h = absurd (omega arith)
 breaks-below (suc r) zero s h = refl
 breaks-below (suc r) (suc o) (Enter k) h = absurd (omega arith)
 breaks-below (suc r) (suc o) Leave h = absurd (omega arith)
 breaks-below (suc r) (suc o) (Token k n) h = absurd (omega arith)
 breaks-below (suc r) (suc o) (Error c x) h = absurd (omega arith)
+breaks-below (suc r) (suc o) (Expected k f) h = absurd (omega arith)
 
 false-true : false ≡ true → ⊥
 false-true q = let z : _≡_ {A = ℕ} 0 1 = cc in omega arith

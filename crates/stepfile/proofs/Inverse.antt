@@ -9,7 +9,7 @@ use lib.ListN.{length, getD, take, drop, take-append-drop}
 use lib.Seq.{drop-cons}
 use borrow.Author.Tests.{ne-eqb, le-ltb, eqb-true, eqb-false, ltb-false}
 use Rattle.records.specs.declared.Step.{Step}
-use Rattle.records.specs.declared.Step.the-variants.{Enter, Leave, Token, Error}
+use Rattle.records.specs.declared.Step.the-variants.{Enter, Leave, Token, Error, Expected}
 use Rattle.records.specs.Record.{recordOf, Sound as SoundStep}
 use Rattle.laws.proofs.Tests.{by-test}
 use Rattle.stepfile.specs.declared.Found.{Found}
@@ -37,19 +37,24 @@ read-record (Token k n) more h =
 read-record (Error c x) more h =
     whole (recordOf (Error c x) ++ more) (omega arith) (omega arith)
     ∙ rw (two-back c, two-back x)
+read-record (Expected k f) more h =
+    whole (recordOf (Expected k f) ++ more) (omega arith) (omega arith)
+    ∙ rw (two-back k, two-back f)
 
 -- ---- what reads as a step is its record
 
 -- by the sort of a record that reads as a step
 by-sort : (P : ℕ → ℕ → Step → Type 0) (kind size : ℕ) (bs : List ℕ) (s : Step) → stepOf kind size bs ≡ Sound s
     → P 1 2 (Enter (two bs 4)) → P 2 0 Leave → (0 < getD bs 6 0 → getD bs 6 0 ≤ 3 → P 3 3 (Token (two bs 4) (getD bs 6 0))) → P 4 4 (Error (two bs 4) (two bs 6))
+    → (two bs 4 ≡ 1 → P 5 6 (Expected (two bs 6) (two bs 8)))
     → P kind size s
 unfolding stepOf
-by-sort P kind size bs s e a b c d =
+by-sort P kind size bs s e a b c d g =
     by-test Q (eqb kind 1) _ _ (λ k. one 1 2 _ k (λ f. rw f a)) (λ _.
     by-test Q (eqb kind 2) _ _ (λ k. one 2 0 _ k (λ f. rw f b)) (λ _.
     by-test Q (eqb kind 3) _ _ (λ k. by-test Q (eqb size 3) _ _ (λ z. token k z) (λ _. none)) (λ _.
-    by-test Q (eqb kind 4) _ _ (λ k. one 4 4 _ k (λ f. rw f d)) (λ _. none)))) e
+    by-test Q (eqb kind 4) _ _ (λ k. one 4 4 _ k (λ f. rw f d)) (λ _.
+    by-test Q (eqb kind 5) _ _ (λ k. by-test Q (eqb size 6) _ _ (λ z. expected k z) (λ _. none)) (λ _. none))))) e
   where
     Q : Found → Type 0
     Q f = f ≡ Sound s → P kind size s
@@ -61,8 +66,8 @@ by-sort P kind size bs s e a b c d =
     same t q = cc
 
     one : (k z : ℕ) (t : Step) → eqb kind k ≡ true → (s ≡ t → P k z s) → cond (eqb size z) (Sound t) Unsound ≡ Sound s → P kind size s
-    one k z t ek g =
-        by-test Q (eqb size z) _ _ (λ ez q. rw (eqb-true kind k ek, eqb-true size z ez) (g (same t q))) (λ _. none)
+    one k z t ek f =
+        by-test Q (eqb size z) _ _ (λ ez q. rw (eqb-true kind k ek, eqb-true size z ez) (f (same t q))) (λ _. none)
 
     token : eqb kind 3 ≡ true → eqb size 3 ≡ true → cond (eqb (getD bs 6 0) 0) Unsound (cond (ltb 3 (getD bs 6 0)) Unsound (Sound (Token (two bs 4) (getD bs 6 0)))) ≡ Sound s → P kind size s
     token ek ez =
@@ -75,9 +80,15 @@ by-sort P kind size bs s e a b c d =
         positive zero z = absurd (z refl)
         positive (suc n) z = omega arith
 
+    expected : eqb kind 5 ≡ true → eqb size 6 ≡ true → cond (eqb (two bs 4) 1) (Sound (Expected (two bs 6) (two bs 8))) Unsound ≡ Sound s → P kind size s
+    expected ek ez =
+        by-test Q (eqb (two bs 4) 1) _ _
+        (λ o q. rw (eqb-true kind 5 ek, eqb-true size 6 ez, same (Expected (two bs 6) (two bs 8)) q) (g (eqb-true (two bs 4) 1 o)))
+        (λ _. none)
+
 -- the record of a step has four bytes more than its payload
 size-of : (kind size : ℕ) (bs : List ℕ) (s : Step) → stepOf kind size bs ≡ Sound s → length (recordOf s) ≡ 4 + size
-size-of kind size bs s e = by-sort (λ k z t. length (recordOf t) ≡ 4 + z) kind size bs s e refl refl (λ _ _. refl) refl
+size-of kind size bs s e = by-sort (λ k z t. length (recordOf t) ≡ 4 + z) kind size bs s e refl refl (λ _ _. refl) refl (λ _. refl)
 
 -- what a front that is a step comes from
 opened : (bs : List ℕ) (s : Step) → front bs ≡ Sound s → (4 + two bs 0 ≤ length bs) × (stepOf (two bs 2) (two bs 0) bs ≡ Sound s)
@@ -142,6 +153,9 @@ module _ (bs : List ℕ) (small : Bytes bs) where
       (λ k z h. let a = low 0 0 z (omega arith) in let b = low 2 2 k (omega arith) in (take-firsts bs 4 0 h ∙ (cc (a .0, a .1, b .0, b .1)), tt))
       (λ m n k z h. let a = low 0 3 z (omega arith) in let b = low 2 3 k (omega arith) in let c = halves 4 in (take-firsts bs 7 0 h ∙ (cc (a .0, a .1, b .0, b .1, c .0, c .1)), (c .2, m, n)))
       (λ k z h. let a = low 0 4 z (omega arith) in let b = low 2 4 k (omega arith) in let c = halves 4 in let d = halves 6 in (take-firsts bs 8 0 h ∙ (cc (a .0, a .1, b .0, b .1, c .0, c .1, d .0, d .1)), (c .2, d .2)))
+      (λ o k z h.
+      let a = low 0 6 z (omega arith) in let b = low 2 5 k (omega arith) in let g = low 4 1 o (omega arith) in let c = halves 6 in let d = halves 8 in
+      (take-firsts bs 10 0 h ∙ (cc (a .0, a .1, b .0, b .1, g .0, g .1, c .0, c .1, d .0, d .1)), (c .2, d .2)))
 
   pub record-there : (s : Step) → front bs ≡ Sound s → (bs ≡ recordOf s ++ behind bs) × SoundStep s
   unfolding There

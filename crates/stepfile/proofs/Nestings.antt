@@ -3,7 +3,7 @@ use Prim.Native.Nat.{ℕ, zero, suc, _-_, _≤_, _<_}
 use native.Mathlib.Omega.{arith}
 use mathlib.Core.Path.{_≡_, refl, ap}
 use Rattle.records.specs.declared.Step.{Step}
-use Rattle.records.specs.declared.Step.the-variants.{Enter, Leave, Token, Error}
+use Rattle.records.specs.declared.Step.the-variants.{Enter, Leave, Token, Error, Expected}
 use Rattle.stepfile.specs.declared.Nodes.the-variants.{Open, Fault}
 use Rattle.stepfile.specs.Answer.{says, refuses}
 use Rattle.stepfile.specs.Nesting.{after, nest}
@@ -47,6 +47,7 @@ opens-one r o s = on r o s
     by (suc o) Leave p e = omega (arith, same o p e)
     by o (Token k n) p e = omega (arith, same o p e)
     by o (Error c x) p e = omega (arith, same o p e)
+    by o (Expected k f) p e = omega (arith, same o p e)
 
     on : (r o : ℕ) (s : Step) (p : ℕ) → nest r o s ≡ Open p → p ≤ suc o
     on zero o s p e = by o s p e

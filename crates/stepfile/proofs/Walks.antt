@@ -7,7 +7,7 @@ use mathlib.Core.List.{List, [], _∷_, _++_, append-assoc, append-nil}
 use lib.ListN.{length, drop, length-append, length-drop}
 use lib.Seq.{drop-append-seam, drop-drop}
 use Rattle.records.specs.declared.Step.{Step}
-use Rattle.records.specs.declared.Step.the-variants.{Enter, Leave, Token, Error}
+use Rattle.records.specs.declared.Step.the-variants.{Enter, Leave, Token, Error, Expected}
 use Rattle.records.specs.Record.{recordOf, bytes, Sounds}
 use Rattle.stepfile.specs.declared.Found.{Found}
 use Rattle.stepfile.specs.declared.Found.the-variants.{Sound, End, Cut, Unsound}
@@ -32,6 +32,7 @@ four (Enter k) = omega arith
 four Leave = omega arith
 four (Token k n) = omega arith
 four (Error c x) = omega arith
+four (Expected k f) = omega arith
 
 -- a step that stands at a place lies in the file: for who walks by places
 pub step-inside : (l : List ℕ) (at : ℕ) (f : Found) (s : Step) → f ≡ front (drop at l) → f ≡ Sound s → (at + length (recordOf s) ≤ length l) × (at + 4 ≤ at + length (recordOf s))

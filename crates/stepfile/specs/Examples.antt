@@ -4,7 +4,7 @@ use mathlib.Core.Path.{_≡_, refl}
 use mathlib.Core.List.{List, [], _∷_, _++_, map}
 use lib.ListN.{take}
 use Rattle.records.specs.declared.Step.{Step}
-use Rattle.records.specs.declared.Step.the-variants.{Enter as enter, Leave as leave, Token as token, Error as error}
+use Rattle.records.specs.declared.Step.the-variants.{Enter as enter, Leave as leave, Token as token, Error as error, Expected as expected}
 use Rattle.records.specs.Record.{recordOf, bytes}
 use Rattle.stepfile.specs.declared.Found.{Found}
 use Rattle.stepfile.specs.declared.Found.the-variants as F
@@ -67,6 +67,19 @@ rows =
     ++ faulty (3 ∷ 0 ∷ 3 ∷ 0 ∷ 40 ∷ 0 ∷ 0 ∷ []) (refuses 12 0) F.Unsound
     ++ goes (enter 40) (3 ∷ 0 ∷ 3 ∷ 0 ∷ 40 ∷ 0 ∷ 4 ∷ []) (refuses 12 6)
     ++ goes (enter 40) (1 ∷ 0 ∷ 2 ∷ 0 ∷ 0 ∷ []) (refuses 12 6)
+    -- `break` alone, 27 bytes: SEMICOLON expected and EOF found; that record by itself; the same error in an older file, without what was found
+    ++ steps (enter 144 ∷ token 79 1 ∷ expected 3 1 ∷ leave ∷ []) (says 0 27 4)
+    ++ goes (enter 144) (3 ∷ 0 ∷ 3 ∷ 0 ∷ 79 ∷ 0 ∷ 1 ∷ 6 ∷ 0 ∷ 5 ∷ 0 ∷ 1 ∷ 0 ∷ 3 ∷ 0 ∷ 1 ∷ 0 ∷ 0 ∷ 0 ∷ 2 ∷ 0 ∷ []) (says 0 27 4)
+    ++ (row (6 ∷ 0 ∷ 5 ∷ 0 ∷ 1 ∷ 0 ∷ 3 ∷ 0 ∷ 1 ∷ 0 ∷ []) (says 0 10 1) (F.Sound (expected 3 1)) [] ∷ [])
+    ++ steps (enter 144 ∷ token 79 1 ∷ error 1 3 ∷ leave ∷ []) (says 0 25 4)
+    -- record kind 5 with any two kinds; with code 2, and with 1 in the low byte alone; of 4 bytes and of 7; cut, whatever the code
+    ++ steps (expected 65535 65534 ∷ []) (says 0 10 1)
+    ++ faulty (6 ∷ 0 ∷ 5 ∷ 0 ∷ 2 ∷ 0 ∷ 3 ∷ 0 ∷ 1 ∷ 0 ∷ []) (refuses 12 0) F.Unsound
+    ++ faulty (6 ∷ 0 ∷ 5 ∷ 0 ∷ 1 ∷ 1 ∷ 3 ∷ 0 ∷ 1 ∷ 0 ∷ []) (refuses 12 0) F.Unsound
+    ++ faulty (4 ∷ 0 ∷ 5 ∷ 0 ∷ 1 ∷ 0 ∷ 3 ∷ 0 ∷ []) (refuses 12 0) F.Unsound
+    ++ faulty (7 ∷ 0 ∷ 5 ∷ 0 ∷ 1 ∷ 0 ∷ 3 ∷ 0 ∷ 1 ∷ 0 ∷ 0 ∷ []) (refuses 12 0) F.Unsound
+    ++ goes (enter 144) (6 ∷ 0 ∷ 5 ∷ 0 ∷ 1 ∷ 0 ∷ 3 ∷ 0 ∷ 1 ∷ []) (refuses 11 6)
+    ++ faulty (6 ∷ 0 ∷ 5 ∷ 0 ∷ 2 ∷ 0 ∷ 3 ∷ 0 ∷ 1 ∷ []) (refuses 11 0) F.Cut
 
 table : map got rows ≡ rows
 unfolding rows bytes front stepOf behind nest ended walk

@@ -4,7 +4,7 @@ use mathlib.Core.Bool.{cond}
 use mathlib.Core.List.{List}
 use lib.Dec.{eqb, ltb}
 use lib.ListN.{length, getD, drop}
-use Rattle.records.specs.declared.Step.the-variants.{Enter, Leave, Token, Error}
+use Rattle.records.specs.declared.Step.the-variants.{Enter, Leave, Token, Error, Expected}
 use Rattle.records.specs.Record.{recordOf}
 use Rattle.stepfile.specs.declared.Found.{Found}
 use Rattle.stepfile.specs.declared.Found.the-variants.{Sound, End, Cut, Unsound}
@@ -17,14 +17,20 @@ two bs i = getD bs i 0 + 256 * getD bs (i + 1) 0
 abbrev counted : ℕ → ℕ → Found
 counted kind n = cond (eqb n 0) Unsound (cond (ltb 3 n) Unsound (Sound (Token kind n)))
 
--- A whole record, by its kind and its payload's length: enter, leave, token, error. The payload stands from byte 4 on.
+-- the code of "expected KIND" is 1
+abbrev expected : ℕ → ℕ → ℕ → Found
+expected code kind found = cond (eqb code 1) (Sound (Expected kind found)) Unsound
+
+-- A whole record, by its kind and its payload's length: enter, leave, token, error, an error with what was found. The payload stands from
+-- byte 4 on.
 unfoldable pub stepOf : ℕ → ℕ → List ℕ → Found
 stepOf kind size bs =
     cond (eqb kind 1) (cond (eqb size 2) (Sound (Enter (two bs 4))) Unsound)
     (cond (eqb kind 2) (cond (eqb size 0) (Sound Leave) Unsound)
     (cond (eqb kind 3) (cond (eqb size 3) (counted (two bs 4) (getD bs 6 0)) Unsound)
     (cond (eqb kind 4) (cond (eqb size 4) (Sound (Error (two bs 4) (two bs 6))) Unsound)
-    Unsound)))
+    (cond (eqb kind 5) (cond (eqb size 6) (expected (two bs 4) (two bs 6) (two bs 8)) Unsound)
+    Unsound))))
 
 -- No bytes: the end. Fewer than four, or than four and the payload's length say, whatever the kind: a record that runs past the end.
 unfoldable pub front : List ℕ → Found

@@ -6,7 +6,7 @@ use mathlib.Core.List.{List, [], _∷_, _++_}
 use lib.Dec.{ltb}
 use lib.ListN.{length, getD, take}
 use Rattle.records.specs.declared.Step.{Step}
-use Rattle.records.specs.declared.Step.the-variants.{Enter, Leave, Token, Error}
+use Rattle.records.specs.declared.Step.the-variants.{Enter, Leave, Token, Error, Expected}
 use Rattle.records.specs.Record.{recordOf, bytes, Sound, Sounds}
 use Rattle.stepfile.specs.declared.Found.{Found}
 use Rattle.stepfile.specs.declared.Found.the-variants as F
@@ -32,6 +32,7 @@ enters (Enter k ∷ ss) = 1 + enters ss
 enters (Leave ∷ ss) = enters ss
 enters (Token k n ∷ ss) = enters ss
 enters (Error c x ∷ ss) = enters ss
+enters (Expected k f ∷ ss) = enters ss
 
 unfoldable pub leaves : List Step → ℕ
 leaves [] = 0
@@ -39,6 +40,7 @@ leaves (Enter k ∷ ss) = leaves ss
 leaves (Leave ∷ ss) = 1 + leaves ss
 leaves (Token k n ∷ ss) = leaves ss
 leaves (Error c x ∷ ss) = leaves ss
+leaves (Expected k f ∷ ss) = leaves ss
 
 -- after the first i steps the depth is above zero
 abbrev pub Above : List Step → ℕ → Type 0
@@ -69,7 +71,8 @@ pub record Cut (bs : List ℕ) (p : ℕ) : Type 0 where
   pub some : 0 < length (upto .rest)
   pub past : length (upto .rest) < 4 + two (upto .rest) 0
 
--- 12: a whole record, which is no enter of 2 bytes, no leave of none, no error of 4 and no token of 3 with a raw count of 1 to 3
+-- 12: a whole record, which is no enter of 2 bytes, no leave of none, no token of 3 with a raw count of 1 to 3, no error of 4 and none of 6
+-- with code 1
 pub record Unsound (bs : List ℕ) (p : ℕ) : Type 0 where
   pub upto : Upto bs p
   pub some : 0 < length (upto .rest)
@@ -78,6 +81,7 @@ pub record Unsound (bs : List ℕ) (p : ℕ) : Type 0 where
   pub no-leave : two (upto .rest) 2 ≡ 2 → two (upto .rest) 0 ≡ 0 → ⊥
   pub no-token : two (upto .rest) 2 ≡ 3 → two (upto .rest) 0 ≡ 3 → 0 < getD (upto .rest) 6 0 → getD (upto .rest) 6 0 ≤ 3 → ⊥
   pub no-error : two (upto .rest) 2 ≡ 4 → two (upto .rest) 0 ≡ 4 → ⊥
+  pub no-expected : two (upto .rest) 2 ≡ 5 → two (upto .rest) 0 ≡ 6 → two (upto .rest) 4 ≡ 1 → ⊥
 
 -- 13: a sound record that is not the first begins at depth zero, or takes the depth below zero; or the file ends without a record, or at a
 -- depth above zero

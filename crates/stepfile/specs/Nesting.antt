@@ -3,7 +3,7 @@ use Prim.Native.Nat.{ℕ, zero, suc}
 use mathlib.Core.Bool.{Bool, true, false}
 use mathlib.Core.List.{List, [], _∷_}
 use Rattle.records.specs.declared.Step.{Step}
-use Rattle.records.specs.declared.Step.the-variants.{Enter, Leave, Token, Error}
+use Rattle.records.specs.declared.Step.the-variants.{Enter, Leave, Token, Error, Expected}
 use Rattle.stepfile.specs.declared.Nodes.{Nodes}
 use Rattle.stepfile.specs.declared.Nodes.the-variants.{Open, Fault}
 
@@ -14,6 +14,7 @@ after zero Leave = Fault
 after (suc o) Leave = Open o
 after o (Token k n) = Open o
 after o (Error c x) = Open o
+after o (Expected k f) = Open o
 
 -- the same for a record with r before it: only the first may begin where no node is open
 unfoldable pub nest : ℕ → ℕ → Step → Nodes

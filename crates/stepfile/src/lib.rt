@@ -2,6 +2,7 @@
 // good. It writes nothing and takes files of any length.
 use records::ENTER;
 use records::ERROR;
+use records::EXPECTED;
 use records::LEAVE;
 use records::Step;
 use records::TOKEN;
@@ -24,7 +25,7 @@ pub enum Found {
     End,
     // a record that runs past the end
     Cut,
-    // an unknown kind, a length that is not the kind's, or a raw count that is none of 1 to 3
+    // an unknown kind, a length that is not the kind's, a raw count that is none of 1 to 3, or a code that is not 1 in record kind 5
     Unsound,
 }
 
@@ -139,13 +140,21 @@ fn token_at(file: &[u8], at: usize) -> Found
     ensures { λ r. ⌜ r ≡ stepOf 3 3 (drop at (now (file .entry))) ⌝ }
 {
     let count = file[at + 6];
-    if count == 0 {
+    match count {
+        1..=3 => Found::Sound(Step::Token(two_at(file, at + 4), count)),
+        _ => Found::Unsound,
+    }
+}
+
+// The record of an error with what was found, by its code.
+fn expected_at(file: &[u8], at: usize) -> Found
+    requires { ⌜ at + 10 ≤ length (now file) ⌝ }
+    ensures { λ r. ⌜ r ≡ stepOf 5 6 (drop at (now (file .entry))) ⌝ }
+{
+    if two_at(file, at + 4) != 1 {
         return Found::Unsound;
     }
-    if count > 3 {
-        return Found::Unsound;
-    }
-    Found::Sound(Step::Token(two_at(file, at + 4), count))
+    Found::Sound(Step::Expected(two_at(file, at + 6), two_at(file, at + 8)))
 }
 
 // The whole record at a place, by its head: of each record kind one payload length is sound.
@@ -165,6 +174,9 @@ fn record_at(file: &[u8], at: usize, head: u32) -> Found
     }
     if head == ERROR {
         return Found::Sound(Step::Error(two_at(file, at + 4), two_at(file, at + 6)));
+    }
+    if head == EXPECTED {
+        return expected_at(file, at);
     }
     Found::Unsound
 }
@@ -244,6 +256,7 @@ fn after(held: usize, s: Step) -> Nodes
         },
         Step::Token(_, _) => Nodes::Open(held),
         Step::Error(_, _) => Nodes::Open(held),
+        Step::Expected(_, _) => Nodes::Open(held),
     }
 }
 

@@ -30,10 +30,10 @@ fn words_room() -> [u32; 131072]
     [0; 131072]
 }
 
-fn steps_room() -> [u8; 524288]
-    ensures { λ r. ⌜ 524288 ≡ length r ⌝ }
+fn steps_room() -> [u8; 655360]
+    ensures { λ r. ⌜ 655360 ≡ length r ⌝ }
 {
-    [0; 524288]
+    [0; 655360]
 }
 
 // Resolves the events of a done parse, and writes the tree and the last line.

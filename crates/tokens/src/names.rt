@@ -3,6 +3,9 @@
 ghost use mathlib.Core.Path.{_≡_};
 ghost use lib.ListN.{length};
 
+// The greatest number of a kind.
+pub const LAST: u64 = 202;
+
 // The kinds' names.
 pub fn kinds() -> [u8; 2020]
     ensures { λ r. ⌜ 2020 ≡ length r ⌝ }
@@ -214,7 +217,218 @@ pub fn kinds() -> [u8; 2020]
 "
 }
 
-// What an error's code says (docs/MESSAGES.md). The kind's name goes behind that of 1; there is no code 0.
+// What they are called in a message (docs/KINDS.md).
+pub fn words() -> [u8; 2516]
+    ensures { λ r. ⌜ 2516 ≡ length r ⌝ }
+{
+    *b"\
+    an abandoned node\n\
+    the end of the program\n\
+    `++`\n\
+    `;`\n\
+    `,`\n\
+    `(`\n\
+    `)`\n\
+    `{`\n\
+    `}`\n\
+    `[`\n\
+    `]`\n\
+    `<`\n\
+    `>`\n\
+    `@`\n\
+    `#`\n\
+    `~`\n\
+    `?`\n\
+    `$`\n\
+    `&`\n\
+    `|`\n\
+    `+`\n\
+    `*`\n\
+    `/`\n\
+    `^`\n\
+    `%`\n\
+    `_`\n\
+    `.`\n\
+    `..`\n\
+    `...`\n\
+    `..=`\n\
+    `:`\n\
+    `::`\n\
+    `=`\n\
+    `==`\n\
+    `=>`\n\
+    `!`\n\
+    `!=`\n\
+    `-`\n\
+    `->`\n\
+    `<=`\n\
+    `>=`\n\
+    `+=`\n\
+    `-=`\n\
+    `|=`\n\
+    `&=`\n\
+    `^=`\n\
+    `/=`\n\
+    `*=`\n\
+    `%=`\n\
+    `&&`\n\
+    `||`\n\
+    `<<`\n\
+    `>>`\n\
+    `<<=`\n\
+    `>>=`\n\
+    `OPENQASM`\n\
+    `include`\n\
+    `pragma`\n\
+    `def`\n\
+    `defcalgrammar`\n\
+    `cal`\n\
+    `defcal`\n\
+    `gate`\n\
+    `delay`\n\
+    `reset`\n\
+    `measure`\n\
+    `let`\n\
+    `box`\n\
+    `extern`\n\
+    `const`\n\
+    `barrier`\n\
+    `gphase`\n\
+    `if`\n\
+    `else`\n\
+    `for`\n\
+    `in`\n\
+    `while`\n\
+    `continue`\n\
+    `return`\n\
+    `break`\n\
+    `end`\n\
+    `switch`\n\
+    `case`\n\
+    `default`\n\
+    `input`\n\
+    `output`\n\
+    `readonly`\n\
+    `mutable`\n\
+    `qreg`\n\
+    `creg`\n\
+    `qubit`\n\
+    `void`\n\
+    `array`\n\
+    `ctrl`\n\
+    `negctrl`\n\
+    `inv`\n\
+    `pow`\n\
+    `false`\n\
+    `true`\n\
+    an integer\n\
+    a floating-point number\n\
+    a character\n\
+    a byte\n\
+    a string\n\
+    a bit string\n\
+    `float`\n\
+    `int`\n\
+    `uint`\n\
+    `complex`\n\
+    `bool`\n\
+    `bit`\n\
+    `duration`\n\
+    `stretch`\n\
+    `angle`\n\
+    a text that is no token\n\
+    a name\n\
+    a hardware qubit\n\
+    white space\n\
+    a comment\n\
+    a pragma\n\
+    an annotation\n\
+    a node SOURCE_FILE\n\
+    a node GATE\n\
+    a node DEF_CAL\n\
+    a node DELAY_STMT\n\
+    a node CAL\n\
+    a node DEF_CAL_GRAMMAR\n\
+    a node MEASURE\n\
+    a node BARRIER\n\
+    a node DEF\n\
+    a node RESET\n\
+    a node CONST\n\
+    a node PRAGMA_STATEMENT\n\
+    a node ANNOTATION_STATEMENT\n\
+    a node TIMING_LITERAL\n\
+    a node TUPLE_EXPR\n\
+    a node ARRAY_EXPR\n\
+    a node PAREN_EXPR\n\
+    a node IF_STMT\n\
+    a node WHILE_STMT\n\
+    a node FOR_STMT\n\
+    a node FOR_ITERABLE\n\
+    a node END_STMT\n\
+    a node CONTINUE_STMT\n\
+    a node BREAK_STMT\n\
+    a node BLOCK_EXPR\n\
+    a node STMT_LIST\n\
+    a node RETURN_EXPR\n\
+    a node LET_STMT\n\
+    a node BOX_EXPR\n\
+    a node SWITCH_CASE_STMT\n\
+    a node CASE_EXPR\n\
+    a node CALL_EXPR\n\
+    a node GATE_CALL_EXPR\n\
+    a node MODIFIED_GATE_CALL_EXPR\n\
+    a node G_PHASE_CALL_EXPR\n\
+    a node CAST_EXPRESSION\n\
+    a node INDEX_EXPR\n\
+    a node PREFIX_EXPR\n\
+    a node RANGE_EXPR\n\
+    a node BIN_EXPR\n\
+    a node LITERAL\n\
+    a node NAME\n\
+    a node EXPR_STMT\n\
+    a node TYPE\n\
+    a node PARAM_LIST\n\
+    a node TYPED_PARAM_LIST\n\
+    a node QUBIT_LIST\n\
+    a node FILE_PATH\n\
+    a node PARAM\n\
+    a node TYPED_PARAM\n\
+    a node ARG_LIST\n\
+    a node VERSION\n\
+    a node VERSION_STRING\n\
+    a node INCLUDE\n\
+    a node DECLARATION\n\
+    a node DESIGNATOR\n\
+    a node SCALAR_TYPE\n\
+    a node ARRAY_TYPE\n\
+    a node QUBIT_TYPE\n\
+    a node EXPRESSION_LIST\n\
+    a node RETURN_SIGNATURE\n\
+    a node SET_EXPRESSION\n\
+    a node ALIAS_DECLARATION_STATEMENT\n\
+    a node INDEX_OPERATOR\n\
+    a node INDEX_KIND\n\
+    a node INDEXED_IDENTIFIER\n\
+    a node IDENTIFIER\n\
+    a node ARRAY_LITERAL\n\
+    a node HARDWARE_QUBIT\n\
+    a node CLASSICAL_DECLARATION_STATEMENT\n\
+    a node ASSIGNMENT_STMT\n\
+    a node I_O_DECLARATION_STATEMENT\n\
+    a node GATE_OPERAND\n\
+    a node MEASURE_EXPRESSION\n\
+    a node OLD_STYLE_DECLARATION_STATEMENT\n\
+    a node QUANTUM_DECLARATION_STATEMENT\n\
+    a node INV_MODIFIER\n\
+    a node POW_MODIFIER\n\
+    a node CTRL_MODIFIER\n\
+    a node NEG_CTRL_MODIFIER\n\
+    a node MODIFIER\n\
+    the end mark of the kinds\n\
+"
+}
+
+// What an error's code says (docs/MESSAGES.md). The kind goes behind that of 1; there is no code 0.
 pub fn messages() -> [u8; 1265]
     ensures { λ r. ⌜ 1265 ≡ length r ⌝ }
 {

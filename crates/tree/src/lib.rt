@@ -5,6 +5,8 @@ use records::size;
 use stepfile::Found;
 use stepfile::step_at;
 use text::put;
+use tokens::table::put_expected;
+use tokens::table::put_found;
 use tokens::table::put_kind;
 use tokens::table::put_meaning;
 use tokens::table::put_message;
@@ -41,12 +43,12 @@ fn put_token(kind: u64, raw: u64, place: u64) {
     }
 }
 
-// A message; that of code 1 names the kind that is its argument.
+// A message; that of code 1 says the kind that is its argument.
 fn put_said(code: u64, argument: u64) {
-    put_message(code);
     if code == 1 {
-        io::write_all(1, b" ");
-        put_kind(argument);
+        put_expected(argument);
+    } else {
+        put_message(code);
     }
 }
 
@@ -60,9 +62,8 @@ fn put_end() {
 }
 
 // What stands at a place, at the end of a line.
-fn put_found(kinds: &[u16], place: u64) {
-    io::write_all(1, b", found ");
-    put_kind(found(kinds, place) as u64);
+fn put_standing(kinds: &[u16], place: u64) {
+    put_found(found(kinds, place) as u64);
     put_end();
 }
 
@@ -70,7 +71,15 @@ fn put_found(kinds: &[u16], place: u64) {
 fn put_error(kinds: &[u16], code: u64, argument: u64, place: u64) {
     put(b"error % at %: ", &[code, place]);
     put_said(code, argument);
-    put_found(kinds, place);
+    put_standing(kinds, place);
+}
+
+// The same of one that says itself what was found.
+fn put_lacking(kind: u64, found: u64, place: u64) {
+    put(b"error 1 at %: ", &[place]);
+    put_expected(kind);
+    put_found(found);
+    put_end();
 }
 
 fn put_node(kind: u64) {
@@ -85,6 +94,7 @@ fn put_what(kinds: &[u16], s: Step, place: u64) {
         Step::Leave => {}
         Step::Token(kind, count) => put_token(kind as u64, count as u64, place),
         Step::Error(code, argument) => put_error(kinds, code as u64, argument as u64, place),
+        Step::Expected(kind, found) => put_lacking(kind as u64, found as u64, place),
     }
 }
 
@@ -94,6 +104,7 @@ fn is_leave(s: Step) -> bool {
         Step::Leave => true,
         Step::Token(_, _) => false,
         Step::Error(_, _) => false,
+        Step::Expected(_, _) => false,
     }
 }
 
@@ -124,6 +135,9 @@ fn walked(s: Step, w: Walk) -> Walk
             v.place = w.place + count as u64;
         }
         Step::Error(_, _) => {
+            v.errors = w.errors + 1;
+        }
+        Step::Expected(_, _) => {
             v.errors = w.errors + 1;
         }
     }
@@ -164,7 +178,7 @@ pub fn put_tree(kinds: &[u16], file: &[u8]) -> u64
 fn put_here(number: u32, place: u64, kinds: &[u16]) {
     if number >= 4 {
         if number <= 8 {
-            put_found(kinds, place);
+            put_standing(kinds, place);
             return;
         }
     }

@@ -53,7 +53,7 @@ hop p (Start k f ∷ es) zero s =
     rw z (record { inside = omega arith; here = entered-file p k (follow (suc p) es f); left = refl; sound = s; start = refl })
 hop p (Finish ∷ es) zero s = absurd (true≢false s)
 hop p (Token k n ∷ es) zero s = absurd (true≢false s)
-hop p (Error c x ∷ es) zero s = absurd (true≢false s)
+hop p (Error c x f ∷ es) zero s = absurd (true≢false s)
 hop p (NoEvent a b ∷ es) zero s = absurd (true≢false s)
 hop p (e ∷ es) (suc d) s =
     let h = hop (suc p) es d s in

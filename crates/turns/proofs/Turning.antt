@@ -29,7 +29,7 @@ unfolding turn entered bytes
 turned p (Start k d) es s = record { steps = entered-file p k (follow (suc p) es d); left = refl; sound = s }
 turned p Finish es s = record { steps = rw follow-none; left = rw follow-none; sound = rw follow-none }
 turned p (Token k n) es s = record { steps = rw follow-none; left = rw follow-none; sound = rw follow-none }
-turned p (Error c x) es s = record { steps = rw follow-none; left = rw follow-none; sound = rw follow-none }
+turned p (Error c x f) es s = record { steps = rw follow-none; left = rw follow-none; sound = rw follow-none }
 turned p (NoEvent a b) es s = absurd (true≢false s)
 
 pub turn-says : (p : ℕ) (e : Event) (es : List Event) → turn p e es .panics ≡ false → (a b : ℕ) → e ≡ NoEvent a b → ⊥

@@ -7,9 +7,9 @@ use Rattle.event.specs.declared.Event.{Event}
 use Rattle.event.specs.declared.Event.the-variants.{Start, Finish, Token, Error, NoEvent}
 use Rattle.event.specs.Event.{tombstone}
 use Rattle.records.specs.declared.Step.{Step}
-use Rattle.records.specs.declared.Step.the-variants.{Leave as leave, Token as token, Error as error}
+use Rattle.records.specs.declared.Step.the-variants.{Leave as leave, Token as token}
 use Rattle.records.specs.Record.{bytes}
-use Rattle.own.specs.Own.{enters}
+use Rattle.own.specs.Own.{enters, reports}
 
 pub record Placed : Type 0 where
   pub place : ℕ
@@ -51,7 +51,7 @@ follow p (e ∷ es) zero = ended (e ∷ es)
 follow p (Start k f ∷ es) (suc zero) = visit p k (follow (suc p) es f)
 follow p (Finish ∷ es) (suc zero) = stuck (Finish ∷ es)
 follow p (Token k n ∷ es) (suc zero) = stuck (Token k n ∷ es)
-follow p (Error c x ∷ es) (suc zero) = stuck (Error c x ∷ es)
+follow p (Error c x f ∷ es) (suc zero) = stuck (Error c x f ∷ es)
 follow p (NoEvent a b ∷ es) (suc zero) = stuck (NoEvent a b ∷ es)
 follow p (e ∷ es) (suc (suc d)) = pass e (follow (suc p) es (suc d))
 
@@ -73,7 +73,7 @@ turn p (Start k d) es =
     record { steps = entered (record { place = p; kind = k } ∷ f .parents); left = f .left; panics = f .panics }
 turn p Finish es = record { steps = placed p (leave ∷ []); left = es; panics = false }
 turn p (Token k n) es = record { steps = placed p (token k n ∷ []); left = es; panics = false }
-turn p (Error c x) es = record { steps = placed p (error c x ∷ []); left = es; panics = false }
+turn p (Error c x f) es = record { steps = placed p (reports c x f ∷ []); left = es; panics = false }
 turn p (NoEvent a b) es = record { steps = []; left = es; panics = true }
 
 -- a turn, which leaves its own event a tombstone, and the turns after it

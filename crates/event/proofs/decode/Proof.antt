@@ -2,7 +2,7 @@
 -- Assumes nothing.
 use borrow.Author.Tests.{eq-eqb, ne-eqb, le-leb, lt-leb, lt-ltb, le-ltb}
 use borrow.Author.Needs.{needs}
-use Rattle.event.specs.Event.{decode}
+use Rattle.event.specs.Event.{decode, errorOf}
 use Rattle.event.proofs.decode.Statement.{statement}
 use Rattle.event.proofs.decode.Tie as tie
 
@@ -45,22 +45,33 @@ unfolding decode
 returns-7 c =
     simp (ne-eqb _ _ (c .before .before .before .before .if1 .left), ne-eqb _ _ (c .before .before .before .if2 .left), eq-eqb _ _ (c .before .before .if5 .taken), ne-eqb _ _ (c .before .if6 .left), lt-leb _ _ (c .if7 .left))
 
-cast-t12 : tie.Need-cast-t12
-cast-t12 c = search needs
+cast-t13 : tie.Need-cast-t13
+cast-t13 c = search needs
+
+cast-t15 : tie.Need-cast-t15
+cast-t15 c = search needs
 
 returns-8 : tie.Need-returns-8
-unfolding decode
+unfolding decode errorOf
 returns-8 c =
-    simp (ne-eqb _ _ (c .before .before .before .before .if1 .left), ne-eqb _ _ (c .before .before .before .if2 .left), ne-eqb _ _ (c .before .before .if5 .left), eq-eqb _ _ (c .before .if8 .taken), lt-ltb _ _ (c .if9 .taken))
+    simp (ne-eqb _ _ (c .before .before .before .before .if1 .left), ne-eqb _ _ (c .before .before .before .if2 .left), ne-eqb _ _ (c .before .before .if5 .left), eq-eqb _ _ (c .before .if8 .taken), eq-eqb _ _ (c .if9 .taken), lt-ltb _ _ (c .before .before .before .before .before .fits .b .fits))
+
+cast-t16 : tie.Need-cast-t16
+cast-t16 c = search needs
 
 returns-9 : tie.Need-returns-9
-unfolding decode
+unfolding decode errorOf
 returns-9 c =
-    simp (ne-eqb _ _ (c .before .before .before .before .if1 .left), ne-eqb _ _ (c .before .before .before .if2 .left), ne-eqb _ _ (c .before .before .if5 .left), eq-eqb _ _ (c .before .if8 .taken), le-ltb _ _ (c .if9 .left))
+    simp (ne-eqb _ _ (c .before .before .before .before .before .if1 .left), ne-eqb _ _ (c .before .before .before .before .if2 .left), ne-eqb _ _ (c .before .before .before .if5 .left), eq-eqb _ _ (c .before .before .if8 .taken), ne-eqb _ _ (c .before .if9 .left), lt-ltb _ _ (c .if10 .taken))
 
 returns-10 : tie.Need-returns-10
-unfolding decode
+unfolding decode errorOf
 returns-10 c =
+    simp (ne-eqb _ _ (c .before .before .before .before .before .if1 .left), ne-eqb _ _ (c .before .before .before .before .if2 .left), ne-eqb _ _ (c .before .before .before .if5 .left), eq-eqb _ _ (c .before .before .if8 .taken), ne-eqb _ _ (c .before .if9 .left), le-ltb _ _ (c .if10 .left))
+
+returns-11 : tie.Need-returns-11
+unfolding decode
+returns-11 c =
     simp (ne-eqb _ _ (c .before .before .before .if1 .left), ne-eqb _ _ (c .before .before .if2 .left), ne-eqb _ _ (c .before .if5 .left), ne-eqb _ _ (c .if8 .left))
 
 pub decode-spec : {M : Type 1} → statement M
@@ -76,7 +87,10 @@ decode-spec =
     cast-t10
     returns-6
     returns-7
-    cast-t12
+    cast-t13
+    cast-t15
     returns-8
+    cast-t16
     returns-9
-    returns-10)
+    returns-10
+    returns-11)

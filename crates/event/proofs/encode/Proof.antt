@@ -8,11 +8,11 @@ use Rattle.event.proofs.encode.Tie as tie
 enum-known-e : tie.Need-enum-known-e
 enum-known-e c = search needs
 
-cast-t11 : tie.Need-cast-t11
-cast-t11 c = search needs
+cast-t12 : tie.Need-cast-t12
+cast-t12 c = search needs
 
-add-t12 : tie.Need-add-t12
-add-t12 c = search needs
+add-t13 : tie.Need-add-t13
+add-t13 c = search needs
 
 enum-told : tie.Need-enum-told
 enum-told c = search needs
@@ -20,26 +20,35 @@ enum-told c = search needs
 enum-known-e-2 : tie.Need-enum-known-e-2
 enum-known-e-2 c = search needs
 
-cast-t13 : tie.Need-cast-t13
-cast-t13 c = search needs
+cast-t14 : tie.Need-cast-t14
+cast-t14 c = search needs
 
-add-t14 : tie.Need-add-t14
-add-t14 c = search needs
-
-cast-t15 : tie.Need-cast-t15
-cast-t15 c = search needs
-
-enum-known-e-3 : tie.Need-enum-known-e-3
-enum-known-e-3 c = search needs
+add-t15 : tie.Need-add-t15
+add-t15 c = search needs
 
 cast-t16 : tie.Need-cast-t16
 cast-t16 c = search needs
 
-add-t17 : tie.Need-add-t17
-add-t17 c = search needs
+enum-known-e-3 : tie.Need-enum-known-e-3
+enum-known-e-3 c = search needs
 
-cast-t18 : tie.Need-cast-t18
-cast-t18 c = search needs
+cast-t17 : tie.Need-cast-t17
+cast-t17 c = search needs
+
+add-t18 : tie.Need-add-t18
+add-t18 c = search needs
+
+cast-t19 : tie.Need-cast-t19
+cast-t19 c = search needs
+
+cast-t20 : tie.Need-cast-t20
+cast-t20 c = search needs
+
+mul-t21 : tie.Need-mul-t21
+mul-t21 c = search needs
+
+add-t22 : tie.Need-add-t22
+add-t22 c = search needs
 
 enum-known-e-4 : tie.Need-enum-known-e-4
 enum-known-e-4 c = search needs
@@ -69,17 +78,20 @@ encode-spec =
     tie.close
     (tie.spec
     enum-known-e
-    cast-t11
-    add-t12
+    cast-t12
+    add-t13
     enum-told
     enum-known-e-2
-    cast-t13
-    add-t14
-    cast-t15
-    enum-known-e-3
+    cast-t14
+    add-t15
     cast-t16
-    add-t17
-    cast-t18
+    enum-known-e-3
+    cast-t17
+    add-t18
+    cast-t19
+    cast-t20
+    mul-t21
+    add-t22
     enum-known-e-4
     returns
     returns-2

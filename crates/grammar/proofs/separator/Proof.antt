@@ -1,6 +1,6 @@
 -- Written by tools/proofs from the code, the definitions and hints.py: docs/PRODUCTIONS.md says how to change it.
 -- `separator` meets its contract. Assumes nothing.
-use Rattle.runtime.proofs.Laws.{then, step, peek, see, ends}
+use Rattle.runtime.proofs.Laws.{then, peek, see, ends}
 use Rattle.grammar.specs.Grammar as G
 use Rattle.grammar.proofs.separator.Statement.{statement}
 use Rattle.grammar.proofs.separator.Tie as tie
@@ -28,17 +28,17 @@ returns c =
 at-ts-requires : tie.Need-at-ts-requires
 at-ts-requires c κs = c .before .before .before .before .before .pre
 
-error-requires : tie.Need-error-requires
-error-requires c κs = c .before .before .before .at-ts .ensures .fit
+error-expected-requires : tie.Need-error-expected-requires
+error-expected-requires c κs = c .before .before .before .at-ts .ensures .fit
 
 same-length-2 : tie.Need-same-length-2
-same-length-2 c = c .before .before .error .kept .1 .0
+same-length-2 c = c .before .before .error-expected .kept .1 .1 .1 .0
 
 returns-2 : tie.Need-returns-2
 unfolding G.separator
 returns-2 c =
-    let error = c .before .before in
-    let if2 = error .before .before in
+    let error-expected = c .before .before in
+    let if2 = error-expected .before .before in
     let at-ts = if2 .before .before in
     let if1 = at-ts .before in
     let at = if1 .before in
@@ -46,8 +46,8 @@ returns-2 c =
     (rw (if1 .if1 .left)
     (peek _ _ _ _ _ (at-ts .at-ts .ensures)
     (rw (if2 .if2 .taken)
-    (step _ _ _ _ (error .error .ensures)
-    (ends _ _ _ (error .error .ensures .fit))))))
+    (then _ _ _ _ (error-expected .error-expected .ensures)
+    (ends _ _ _ (error-expected .error-expected .ensures .fit))))))
 
 returns-3 : tie.Need-returns-3
 unfolding G.separator
@@ -62,5 +62,5 @@ returns-3 c =
     (ends _ _ _ (at-ts .at-ts .ensures .fit)))))
 
 pub separator-spec : {M : Type 1} → statement M
-separator-spec = tie.close (tie.spec at-requires bump-requires same-length returns at-ts-requires error-requires same-length-2
-    returns-2 returns-3)
+separator-spec = tie.close (tie.spec at-requires bump-requires same-length returns at-ts-requires error-expected-requires
+    same-length-2 returns-2 returns-3)

@@ -57,7 +57,7 @@ returns-3 : tie.Need-returns-3
 returns-3 c =
     let s = c .before .before .before .before .before .before in
     let w = s .args .words .now in
-    rw (← event-index w (s .args .i) (s .pre .0)) (sym (next-far _ _ _ _ (c .if3 .taken) (omega (arith, length-drop (suc (s .args .i)) (eventsOf w), length-events w))))
+    rw (← event-index w (s .args .i) (s .pre .0)) (sym (next-far _ _ _ _ (c .before .if2 .left) (c .if3 .taken) (omega (arith, length-drop (suc (s .args .i)) (eventsOf w), length-events w))))
 
 traits-requires : tie.Need-traits-requires
 traits-requires c κs = search needs

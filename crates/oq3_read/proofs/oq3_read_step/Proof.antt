@@ -28,7 +28,7 @@ same-length c = search needs
 returns-2 : tie.Need-returns-2
 returns-2 c =
     let a = c .before .before .before .before .before .before .before .before .before .before .before .args in
-    step-told (a .file .now) (a .answer .now) _ _ _ _ _ _ _
+    step-told (a .file .now) (a .answer .now) _ _ _ _ _ _ _ _
     (c .before .before .before .before .before .before .before .before .if1 .left)
     (c .before .before .before .before .before .before .before .front .ensures)
     (c .code .ensures)

@@ -29,7 +29,7 @@ same-length : tie.Need-same-length
 same-length c = search needs
 
 returns : tie.Need-returns
-returns c = let a = c .args in sets-eq (a .rest ∷ a .r .kind ∷ a .r .first ∷ a .r .second ∷ 0 ∷ 0 ∷ []) (a .answer .now) 0 (omega arith)
+returns c = let a = c .args in sets-eq (a .rest ∷ a .r .kind ∷ a .r .first ∷ a .r .second ∷ a .r .third ∷ 0 ∷ []) (a .answer .now) 0 (omega arith)
 
 pub tell-spec : {M : Type 1} → statement M
 tell-spec =

@@ -5,6 +5,7 @@ use borrow.Author.Tests.{eq-eqb, ne-eqb}
 use borrow.Author.Needs.{needs}
 use Rattle.records.specs.Record.{bytes}
 use Rattle.own.specs.Own.{cost}
+use Rattle.own.proofs.Writes.{own-error, cost-one}
 use Rattle.own.proofs.cost.Statement.{statement}
 use Rattle.own.proofs.cost.Tie as tie
 
@@ -17,11 +18,17 @@ enum-told c = search needs
 enum-told-2 : tie.Need-enum-told-2
 enum-told-2 c = search needs
 
+enum-known-e-2 : tie.Need-enum-known-e-2
+enum-known-e-2 c = search needs
+
+report-requires : tie.Need-report-requires
+report-requires c κs = search needs
+
+size-requires : tie.Need-size-requires
+size-requires c κs = search needs
+
 enum-told-3 : tie.Need-enum-told-3
 enum-told-3 c = search needs
-
-enum-told-4 : tie.Need-enum-told-4
-enum-told-4 c = search needs
 
 returns : tie.Need-returns
 unfolding bytes
@@ -40,12 +47,11 @@ unfolding bytes
 returns-4 c = sym (ap cost (c .enum-told2 .given .1))
 
 returns-5 : tie.Need-returns-5
-unfolding bytes
-returns-5 c = sym (ap cost (c .enum-told3 .given .1))
+returns-5 c = c .size .ensures ∙ sym (cost-one (c .before .before .before .before .before .args .e) _ (own-error _ _ _ _ _ (c .before .before .before .e2 .given .1) (c .before .report .ensures)))
 
 returns-6 : tie.Need-returns-6
 unfolding bytes
-returns-6 c = sym (ap cost (c .enum-told4 .given .1))
+returns-6 c = sym (ap cost (c .enum-told3 .given .1))
 
 pub cost-spec : {M : Type 1} → statement M
 cost-spec =
@@ -54,8 +60,10 @@ cost-spec =
     enum-known-e
     enum-told
     enum-told-2
+    enum-known-e-2
+    report-requires
+    size-requires
     enum-told-3
-    enum-told-4
     returns
     returns-2
     returns-3

@@ -3,7 +3,7 @@
 use mathlib.Core.Path.{ap}
 use borrow.Author.Needs.{needs}
 use Rattle.own.specs.Own.{own}
-use Rattle.own.proofs.Writes.{own-kind, own-none, wrote-no-step, wrote-step, room-step}
+use Rattle.own.proofs.Writes.{own-kind, own-none, own-error, wrote-no-step, wrote-step, room-step}
 use Rattle.own.proofs.put_own.Statement.{statement}
 use Rattle.own.proofs.put_own.Tie as tie
 
@@ -31,8 +31,11 @@ put-requires-3 c κs = room-step _ _ _ _ (ap own (c .before .before .e2 .given .
 enum-known-e-3 : tie.Need-enum-known-e-3
 enum-known-e-3 c = search needs
 
+report-requires : tie.Need-report-requires
+report-requires c κs = search needs
+
 put-requires-4 : tie.Need-put-requires-4
-put-requires-4 c κs = room-step _ _ _ _ (ap own (c .before .before .e3 .given .1)) (c .before .before .before .before .before .pre)
+put-requires-4 c κs = room-step _ _ _ _ (own-error _ _ _ _ _ (c .before .before .before .e3 .given .1) (c .report .ensures)) (c .before .before .before .before .before .before .pre)
 
 enum-told-2 : tie.Need-enum-told-2
 enum-told-2 c = search needs
@@ -59,7 +62,7 @@ same-length-4 : tie.Need-same-length-4
 same-length-4 c = search needs
 
 returns-5 : tie.Need-returns-5
-returns-5 c = wrote-step _ _ _ _ _ _ (ap own (c .before .before .before .before .before .e3 .given .1)) (c .before .before .put4 .ensures)
+returns-5 c = wrote-step _ _ _ _ _ _ (own-error _ _ _ _ _ (c .before .before .before .before .before .before .e3 .given .1) (c .before .before .before .report .ensures)) (c .before .before .put4 .ensures)
 
 returns-6 : tie.Need-returns-6
 returns-6 c = wrote-no-step _ _ _ (ap own (c .enum-told2 .given .1))
@@ -76,6 +79,7 @@ put-own-spec =
     enum-known-e-2
     put-requires-3
     enum-known-e-3
+    report-requires
     put-requires-4
     enum-told-2
     same-length

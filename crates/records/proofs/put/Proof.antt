@@ -54,6 +54,21 @@ put-u16-requires-3 c κs = omega (arith, room _ _ _ _ (c .before .before .before
 put-u16-requires-4 : tie.Need-put-u16-requires-4
 put-u16-requires-4 c κs = omega (arith, room _ _ _ _ (c .before .before .before .before .before .before .before .before .before .before .s3 .given .1) (c .before .before .before .before .before .before .before .before .before .before .before .before .before .pre), c .before .before .before .put-u163 .ensures .place, c .before .before .before .put-u163 .kept .0, c .before .before .before .before .before .before .before .put-head4 .ensures .place, c .before .before .before .before .before .before .before .put-head4 .kept .0)
 
+enum-known-s-4 : tie.Need-enum-known-s-4
+enum-known-s-4 c = search needs
+
+put-head-requires-5 : tie.Need-put-head-requires-5
+put-head-requires-5 c κs = omega (arith, room _ _ _ _ (c .before .before .s4 .given .1) (c .before .before .before .before .before .pre))
+
+put-u16-requires-5 : tie.Need-put-u16-requires-5
+put-u16-requires-5 c κs = omega (arith, room _ _ _ _ (c .before .before .before .before .before .before .s4 .given .1) (c .before .before .before .before .before .before .before .before .before .pre), c .before .before .before .put-head5 .ensures .place, c .before .before .before .put-head5 .kept .0)
+
+put-u16-requires-6 : tie.Need-put-u16-requires-6
+put-u16-requires-6 c κs = omega (arith, room _ _ _ _ (c .before .before .before .before .before .before .before .before .before .before .s4 .given .1) (c .before .before .before .before .before .before .before .before .before .before .before .before .before .pre), c .before .before .before .put-u165 .ensures .place, c .before .before .before .put-u165 .kept .0, c .before .before .before .before .before .before .before .put-head5 .ensures .place, c .before .before .before .before .before .before .before .put-head5 .kept .0)
+
+put-u16-requires-7 : tie.Need-put-u16-requires-7
+put-u16-requires-7 c κs = omega (arith, room _ _ _ _ (c .before .before .before .before .before .before .before .before .before .before .before .before .before .before .s4 .given .1) (c .before .before .before .before .before .before .before .before .before .before .before .before .before .before .before .before .before .pre), c .before .before .before .put-u166 .ensures .place, c .before .before .before .put-u166 .kept .0, c .before .before .before .before .before .before .before .put-u165 .ensures .place, c .before .before .before .before .before .before .before .put-u165 .kept .0, c .before .before .before .before .before .before .before .before .before .before .before .put-head5 .ensures .place, c .before .before .before .before .before .before .before .before .before .before .before .put-head5 .kept .0)
+
 same-length : tie.Need-same-length
 same-length c = search needs
 
@@ -86,6 +101,17 @@ returns-4 c =
     let e = c .before .before .before .before .before .before .before .before .before .before .before .before .before .s3 .given .1 in
     rw e (wrote-then _ _ _ _ _ _ _ _ (wrote-then _ _ _ _ _ _ _ _ (c .before .before .before .before .before .before .before .before .before .before .put-head4 .ensures) (c .before .before .before .before .before .before .put-u163 .ensures) (omega (arith, room _ _ _ _ e (c .before .before .before .before .before .before .before .before .before .before .before .before .before .before .before .before .pre)))) (c .before .before .put-u164 .ensures) (omega (arith, room _ _ _ _ e (c .before .before .before .before .before .before .before .before .before .before .before .before .before .before .before .before .pre))))
 
+same-length-5 : tie.Need-same-length-5
+same-length-5 c = search needs
+
+returns-5 : tie.Need-returns-5
+returns-5 c =
+    let e = c .before .before .before .before .before .before .before .before .before .before .before .before .before .before .before .before .before .s4 .given .1 in
+    let h = room _ _ _ _ e (c .before .before .before .before .before .before .before .before .before .before .before .before .before .before .before .before .before .before .before .before .pre) in
+    let a = wrote-then _ _ _ _ _ _ _ _ (c .before .before .before .before .before .before .before .before .before .before .before .before .before .before .put-head5 .ensures) (c .before .before .before .before .before .before .before .before .before .before .put-u165 .ensures) (omega (arith, h)) in
+    let b = wrote-then _ _ _ _ _ _ _ _ a (c .before .before .before .before .before .before .put-u166 .ensures) (omega (arith, h)) in
+    rw e (wrote-then _ _ _ _ _ _ _ _ b (c .before .before .put-u167 .ensures) (omega (arith, h)))
+
 pub put-spec : {M : Type 1} → statement M
 put-spec =
     tie.close
@@ -103,6 +129,11 @@ put-spec =
     put-head-requires-4
     put-u16-requires-3
     put-u16-requires-4
+    enum-known-s-4
+    put-head-requires-5
+    put-u16-requires-5
+    put-u16-requires-6
+    put-u16-requires-7
     same-length
     returns
     same-length-2
@@ -110,4 +141,6 @@ put-spec =
     same-length-3
     returns-3
     same-length-4
-    returns-4)
+    returns-4
+    same-length-5
+    returns-5)

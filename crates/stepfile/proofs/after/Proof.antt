@@ -23,6 +23,9 @@ enum-told-3 c = search needs
 enum-told-4 : tie.Need-enum-told-4
 enum-told-4 c = search needs
 
+enum-told-5 : tie.Need-enum-told-5
+enum-told-5 c = search needs
+
 returns : tie.Need-returns
 returns c = rw (c .enum-told .given .1, add-one)
 
@@ -38,6 +41,9 @@ returns-4 c = rw (c .enum-told3 .given .1)
 returns-5 : tie.Need-returns-5
 returns-5 c = rw (c .enum-told4 .given .1)
 
+returns-6 : tie.Need-returns-6
+returns-6 c = rw (c .enum-told5 .given .1)
+
 pub after-spec : {M : Type 1} → statement M
 after-spec =
     tie.close
@@ -48,8 +54,10 @@ after-spec =
     sub-t7
     enum-told-3
     enum-told-4
+    enum-told-5
     returns
     returns-2
     returns-3
     returns-4
-    returns-5)
+    returns-5
+    returns-6)

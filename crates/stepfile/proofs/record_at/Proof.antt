@@ -1,5 +1,5 @@
 -- `stepfile::record_at` meets its contract: a head says the kind and the length of one sort of record, or of none. Assumes nothing.
-use Rattle.stepfile.proofs.Fronts.{enter-at, leave-at, token-at, error-at, none-at}
+use Rattle.stepfile.proofs.Fronts.{enter-at, leave-at, token-at, error-at, expected-at, none-at}
 use borrow.Author.Needs.{needs}
 use Rattle.stepfile.proofs.record_at.Statement.{statement}
 use Rattle.stepfile.proofs.record_at.Tie as tie
@@ -37,8 +37,14 @@ two-at-requires-3 c κs = search needs
 returns-4 : tie.Need-returns-4
 returns-4 c = error-at _ _ _ (c .before .before .before .before .before .before .before .pre .0) _ _ (c .before .before .if4 .taken) (c .before .two-at2 .ensures) (c .two-at3 .ensures)
 
+expected-at-requires : tie.Need-expected-at-requires
+expected-at-requires c κs = search needs
+
 returns-5 : tie.Need-returns-5
-returns-5 c = none-at _ _ _ (c .before .before .before .before .before .pre .0) (c .before .before .before .if1 .left) (c .before .before .if2 .left) (c .before .if3 .left) (c .if4 .left)
+returns-5 c = expected-at _ _ _ (c .before .before .before .before .before .before .before .pre .0) _ (c .before .if5 .taken) (c .expected-at .ensures)
+
+returns-6 : tie.Need-returns-6
+returns-6 c = none-at _ _ _ (c .before .before .before .before .before .before .pre .0) (c .before .before .before .before .if1 .left) (c .before .before .before .if2 .left) (c .before .before .if3 .left) (c .before .if4 .left) (c .if5 .left)
 
 pub record-at-spec : {M : Type 1} → statement M
 record-at-spec =
@@ -55,4 +61,6 @@ record-at-spec =
     add-two-at-3
     two-at-requires-3
     returns-4
-    returns-5)
+    expected-at-requires
+    returns-5
+    returns-6)

@@ -8,10 +8,10 @@ use Rattle.steptext.proofs.walk.Statement.{statement}
 use Rattle.steptext.proofs.walk.Tie as tie
 
 abbrev Inv-loop : tie.InvT-loop
-Inv-loop file shown at₀ n₀ at n = (at ≤ length file) × (n ≤ at)
+Inv-loop file shown worded at₀ n₀ at n = (at ≤ length file) × (n ≤ at)
 
 abbrev μ-loop : tie.MeasureT-loop
-μ-loop file shown at₀ n₀ at n = length file - at
+μ-loop file shown worded at₀ n₀ at n = length file - at
 
 loop-holds : tie.Need-loop-holds Inv-loop μ-loop
 loop-holds c = omega arith

@@ -7,11 +7,8 @@ use Rattle.runtime.proofs.parser.Parser.nth.Tie as tie
 returns : tie.Need-returns
 returns c = look-still _ _ _ (c .before .before .before .before .pre .0) (c .if1 .taken)
 
-add-kind : tie.Need-add-kind
-add-kind c = search needs
-
-kind-requires : tie.Need-kind-requires
-kind-requires c κs = search needs
+ahead-requires : tie.Need-ahead-requires
+ahead-requires c κs = search needs
 
 add-t9 : tie.Need-add-t9
 add-t9 c = search needs
@@ -20,7 +17,7 @@ add-t10 : tie.Need-add-t10
 add-t10 c = search needs
 
 returns-2 : tie.Need-returns-2
-returns-2 c = look-done _ _ _ (c .before .before .before .before .before .before .before .before .before .before .pre .0) (c .before .before .before .before .before .before .if1 .left) (c .before .before .before .before .if2 .taken) (c .before .before .kind .ensures)
+returns-2 c = look-done _ _ _ (c .before .before .before .before .before .before .before .before .before .pre .0) (c .before .before .before .before .before .if1 .left) (c .before .before .before .if2 .taken) (c .before .before .ahead .ensures)
 
 refuse-requires : tie.Need-refuse-requires
 refuse-requires c κs = search needs
@@ -31,4 +28,4 @@ returns-3 c = rw (c .refuse .ensures) (look-full _ _ _ (c .before .before .befor
 pub nth-spec : {M : Type 1} → statement M
 nth-spec =
     tie.close
-    (tie.spec returns add-kind kind-requires add-t9 add-t10 returns-2 refuse-requires returns-3)
+    (tie.spec returns ahead-requires add-t9 add-t10 returns-2 refuse-requires returns-3)
