@@ -8,6 +8,7 @@ MODULES = MODULES + [
         "falls-after", "falls-after-peeks"]),
     ("Rattle.grammar.proofs.Spends", [
         "exprBp-spends", "stmt-spends", "item-spends", "index-spends", "ahead-spends", "op-spends", "op-left", "op-next", "left-list"]),
+    ("Rattle.operators.proofs.Tables", ["mode-fair"]),
     ("Rattle.kinds.specs.Kinds", ["L-BRACK", "R-PAREN", "COMMA", "CASE-KW"]),
     ("Rattle.kinds.specs.Sets", ["EXPR-FIRST"]),
 ]
@@ -31,9 +32,9 @@ def loop(over, acts, x0, x, call, falls, **more):
 
 HINTS = {
     "expr_bp": loop("prefer bp d m block q₀ cm₀ room q cm", f"E.exprBpRound {D} (later {D}) (tableOf mode) prefer bp", "cm₀", "cm", "current_op",
-                    "falls-peeks _ _ _ (op-spends _) (op-left _ _ _ ($current-op .ensures) (omega (arith, $if4, $entry .pre .1 .1))) ($current-op .ensures)",
+                    "falls-peeks _ _ _ (op-spends _) (op-left _ (mode-fair _) _ ($current-op .ensures) (omega (arith, $if4, $entry .pre .1 .1))) ($current-op .ensures)",
                     counted="exprBp-deeper _ _ _ _ _ _ _", open=["E.exprBp", "E.exprBpRound"],
-                    claims={"expr-bp-requires": "omega (arith, op-next _ _ _ ($current-op .ensures), $if4, $entry .pre .1 .1)"}),
+                    claims={"expr-bp-requires": "omega (arith, op-next _ (mode-fair _) _ ($current-op .ensures), $if4, $entry .pre .1 .1)"}),
     "spec": loop("d m q₀ room q", f"E.arrayTypeSpecRound {D}", "tt", "tt", "expr_bp",
                       "falls _ _ _ (exprBp-spends _ _ _ _ _) (omega (arith, left-asked ($expect3 .result .p) (sym ($is-refused .ensures) ∙ $test), spent-does _ _ _ ($expect3 .ensures), spent-does _ _ _ ($expr-bp .ensures))) ($expr-bp .ensures)",
                       counted="typeSpec-deeper _ _ _ _", open=["E.typeSpec", "E.arrayTypeSpec", "E.arrayTypeSpecRound"], after=["complete"]),

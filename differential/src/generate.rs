@@ -10,6 +10,18 @@ use std::collections::HashMap;
 /// The most tokens that a parse takes.
 pub const TOKENS: usize = 8_192;
 
+/// The operators, glued and not.
+pub const OPERATORS: [&str; 32] = [
+    "=", "+=", "-=", "*=", "/=", "%=", "&=", "|=", "^=", "<<=", ">>=", "++", "..", "..=", "||", "&&", "==", "!=", "<", ">", "<=", ">=",
+    "|", "^", "&", "<<", ">>", "+", "-", "*", "/", "%",
+];
+
+/// `a OP b OP c` for every two operators.
+pub fn two_operators() -> Vec<Case> {
+    let pair = |first: &str, second: &str| Case::of(Entry::Expr, &tokens(&format!("a {first} b {second} c")).expect("tokens"));
+    OPERATORS.iter().flat_map(|first| OPERATORS.iter().map(|second| pair(first, second))).collect()
+}
+
 /// A token: its kind, and whether it must touch the one before it, as the second half of `==` does.
 type Token = (u16, bool);
 

@@ -19,20 +19,20 @@ pub const PORT: Parse = port::parse;
 /// The numbers that a call can say.
 const CODES: [u32; 11] = [0, 1, 2, 3, 4, 5, 6, 7, 8, 100, 101];
 
-/// Compares the small runs, every short list, `count` random cases, the nests around the depth and the lists at the limits; true where
-/// nothing differs.
+/// Compares the small runs, every short list, every two operators, `count` random cases, the nests around the depth and the lists at the
+/// limits; true where nothing differs.
 pub fn run(count: u64, seed: u64) -> bool {
     let small = small_runs();
     let short = if count < 100_000 { 2 } else { 3 };
     let threads = threads();
-    let limits = limits();
-    let parts = each_thread(threads, |own| part(count, seed, short, &limits, own, threads));
+    let (operators, limits) = (generate::two_operators(), limits());
+    let parts = each_thread(threads, |own| part(count, seed, short, [&operators, &limits], own, threads));
     let mut seen = Seen::default();
     parts.iter().for_each(|part| seen.add(part));
-    let [shorts, randoms, nests, limited] = seen.cases;
+    let [shorts, randoms, nests, operators, limited] = seen.cases;
     println!(
-        "differential: the port on {randoms} random cases of a parse from seed {seed}, {shorts} of at most {short} tokens, {nests} nests and \
-         {limited} at the limits: {} cases, {} calls, {} differ",
+        "differential: the port on {randoms} random cases of a parse from seed {seed}, {shorts} of at most {short} tokens, {operators} of two \
+         operators, {nests} nests and {limited} at the limits: {} cases, {} calls, {} differ",
         seen.cases.iter().sum::<u64>(),
         seen.calls(),
         seen.differing
@@ -74,7 +74,7 @@ pub fn each_thread<T: Send>(threads: usize, body: impl Fn(usize) -> T + Sync) ->
 }
 
 /// The cases of one thread out of `threads`.
-fn part(count: u64, seed: u64, short: usize, limits: &[Case], own: usize, threads: usize) -> Seen {
+fn part(count: u64, seed: u64, short: usize, named: [&[Case]; 2], own: usize, threads: usize) -> Seen {
     let mut seen = Seen::default();
     let mut number = 0;
     let mut list = |alphabet: &[u16], length| {
@@ -105,10 +105,12 @@ fn part(count: u64, seed: u64, short: usize, limits: &[Case], own: usize, thread
             }
         }
     }
-    for (number, case) in limits.iter().enumerate() {
-        let rooms = rng.next();
-        if number % threads == own {
-            seen.look(3, case, rooms);
+    for (sort, cases) in named.into_iter().enumerate() {
+        for (number, case) in cases.iter().enumerate() {
+            let rooms = rng.next();
+            if number % threads == own {
+                seen.look(3 + sort, case, rooms);
+            }
         }
     }
     seen
@@ -130,8 +132,8 @@ pub fn around(number: usize, entry: Entry) -> Vec<Case> {
 /// What the cases were.
 #[derive(Default)]
 struct Seen {
-    /// short, random, nests, at the limits
-    cases: [u64; 4],
+    /// short, random, nests, of two operators, at the limits
+    cases: [u64; 5],
     /// the calls by what they say, in the order of `CODES`
     codes: [u64; 11],
     /// lists that were resolved, by mode
@@ -493,12 +495,16 @@ fn small_runs() -> bool {
     const A: &str = "(IDENTIFIER IDENT)";
     let minus = |n: usize| format!("{}a", "- ".repeat(n));
     let nest = |n: usize| format!("{}{A}{}", "(PREFIX_EXPR MINUS ".repeat(n), ")".repeat(n));
-    let rows: [(Entry, String, u32, (u32, u64), String); 10] = [
+    let rows: [(Entry, String, u32, (u32, u64), String); 14] = [
         (Expr, minus(63), 0, (0, 64), nest(63)),
         (Expr, minus(64), 0, (6, 64), String::new()),
         (Expr, minus(64), 1, (6, 64), String::new()),
         (Expr, "a & b == c".to_string(), 0, (0, 6), format!("(BIN_EXPR (BIN_EXPR {A} AMP {A}) EQ2/2 {A})")),
         (Expr, "a & b == c".to_string(), 1, (0, 6), format!("(BIN_EXPR {A} AMP (BIN_EXPR {A} EQ2/2 {A}))")),
+        (Expr, "a == b < c".to_string(), 0, (0, 6), format!("(BIN_EXPR (BIN_EXPR {A} EQ2/2 {A}) L_ANGLE {A})")),
+        (Expr, "a == b < c".to_string(), 1, (0, 6), format!("(BIN_EXPR {A} EQ2/2 (BIN_EXPR {A} L_ANGLE {A}))")),
+        (Expr, "a < b == c".to_string(), 1, (0, 6), format!("(BIN_EXPR (BIN_EXPR {A} L_ANGLE {A}) EQ2/2 {A})")),
+        (Expr, "a == b == c".to_string(), 1, (0, 7), format!("(BIN_EXPR (BIN_EXPR {A} EQ2/2 {A}) EQ2/2 {A})")),
         (Expr, "x + y = 3".to_string(), 0, (0, 5), format!("(BIN_EXPR {A} PLUS (ASSIGNMENT_STMT {A} EQ (LITERAL INT_NUMBER) !22))")),
         (Expr, "a = b + c".to_string(), 0, (0, 5), format!("(BIN_EXPR (ASSIGNMENT_STMT {A} EQ {A} !22) PLUS {A})")),
         // what was found: the end, a token where a comma is expected, and the first token of a glued one

@@ -8,7 +8,7 @@ use std::collections::HashSet;
 use std::path::Path;
 
 /// Cases that are worth having by name: the small runs of docs/RULES.md, the panics, operators, a program.
-pub const NAMED: [(&str, &str); 34] = [
+pub const NAMED: [(&str, &str); 38] = [
     ("item", "break ;"),
     ("item", ""),
     ("item", "}"),
@@ -16,6 +16,10 @@ pub const NAMED: [(&str, &str); 34] = [
     ("source", ""),
     ("expr", ""),
     ("expr", "a & b == c"),
+    ("expr", "a == b < c"),
+    ("expr", "a < b == c"),
+    ("expr", "a == b == c"),
+    ("expr", "a >= b != c"),
     ("expr", "x + y = 3"),
     ("expr", "a = b + c"),
     ("expr", "a >>= b >> c >= d > e"),

@@ -96,6 +96,12 @@ fn lines() -> Vec<String> {
     random(&mut lines, &mut rng);
     lines.add("# what else the oracle's answers are recorded of, in mode 0".to_string());
     recorded(&mut lines);
+    lines.add("# every two operators".to_string());
+    for case in generate::two_operators() {
+        for mode in 0..=1 {
+            lines.parse(&case, mode, Ev::WORDS * peak(&case, mode));
+        }
+    }
     lines.add("# lists of events".to_string());
     event_lists(&mut lines, &mut rng);
     lines.add("# lines that are none".to_string());

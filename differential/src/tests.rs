@@ -303,9 +303,19 @@ fn minus_signs() {
 const A: &str = "(IDENTIFIER IDENT)";
 
 fn operators() {
-    let and = case(Expr, "a & b == c");
-    assert_eq!(tree_of(&plain(&and, LOOKUPS)), format!("(BIN_EXPR (BIN_EXPR {A} AMP {A}) EQ2/2 {A})"));
-    assert_eq!(tree_of(&mode1(&and)), format!("(BIN_EXPR {A} AMP (BIN_EXPR {A} EQ2/2 {A}))"));
+    let left = |first: &str, second: &str| format!("(BIN_EXPR (BIN_EXPR {A} {first} {A}) {second} {A})");
+    let right = |first: &str, second: &str| format!("(BIN_EXPR {A} {first} (BIN_EXPR {A} {second} {A}))");
+    for (text, in0, in1) in [
+        ("a & b == c", left("AMP", "EQ2/2"), right("AMP", "EQ2/2")),
+        ("a == b < c", left("EQ2/2", "L_ANGLE"), right("EQ2/2", "L_ANGLE")),
+        ("a < b == c", left("L_ANGLE", "EQ2/2"), left("L_ANGLE", "EQ2/2")),
+        ("a == b == c", left("EQ2/2", "EQ2/2"), left("EQ2/2", "EQ2/2")),
+    ] {
+        let case = case(Expr, text);
+        assert_eq!([tree_of(&plain(&case, LOOKUPS)), tree_of(&mode1(&case))], [in0, in1], "{text}");
+    }
+    let equal = mode1(&case(Expr, "a == b < c"));
+    assert_eq!((equal.tokens, equal.events, equal.lookups), (6, 18, 26));
     let sum = run_of(Expr, "x + y = 3");
     assert_eq!(tree_of(&sum), format!("(BIN_EXPR {A} PLUS (ASSIGNMENT_STMT {A} EQ (LITERAL INT_NUMBER) !22))"));
     let set = run_of(Expr, "a = b + c");
@@ -330,8 +340,8 @@ const POWERS: [(&str, u8, u8, bool); 32] = [
     ("..=", 2, 2, false),
     ("||", 3, 3, false),
     ("&&", 4, 4, false),
-    ("==", 5, 12, false),
-    ("!=", 5, 12, false),
+    ("==", 5, 11, false),
+    ("!=", 5, 11, false),
     ("<", 5, 12, false),
     (">", 5, 12, false),
     ("<=", 5, 12, false),
@@ -350,6 +360,7 @@ const POWERS: [(&str, u8, u8, bool); 32] = [
 
 /// `a first b second c` groups as the powers say, for every two operators, in both modes.
 fn powers() {
+    assert_eq!(POWERS.map(|(name, ..)| name), generate::OPERATORS);
     for (first, first0, first1, right) in POWERS {
         for (second, second0, second1, _) in POWERS {
             let case = case(Expr, &format!("a {first} b {second} c"));

@@ -133,6 +133,11 @@ pub fn run(seed: u64) -> bool {
         ("one whose distances have eight bits", |e, m, k, j, r, a| {
             then(parse(e, m, k, j, r, a), a, |c, _| on(c == 0, || r.chunks_mut(2).filter(|w| w[0] / 65_536 == 1).for_each(|w| w[1] %= 256)))
         }),
+        // the powers of mode 1
+        ("one that reads `==` as a comparison in mode 1", |e, m, k, j, r, a| reads_as(e, m, k, j, r, a, "==", ">=")),
+        ("one that reads `!=` as a comparison in mode 1", |e, m, k, j, r, a| reads_as(e, m, k, j, r, a, "!=", ">=")),
+        ("one that reads `<=` as an equality in mode 1", |e, m, k, j, r, a| reads_as(e, m, k, j, r, a, "<=", "==")),
+        ("one that reads `>=` as an equality in mode 1", |e, m, k, j, r, a| reads_as(e, m, k, j, r, a, ">=", "==")),
         // what was found
         ("one that does not say what was found", |e, m, k, j, r, a| finds(e, m, k, j, r, a, |_, _, _| 0)),
         ("one that finds the token behind", |e, m, k, j, r, a| finds(e, m, k, j, r, a, |k, _, at| found::behind(k, at + 1))),
@@ -204,6 +209,7 @@ pub fn run(seed: u64) -> bool {
 /// The cases that a wrong parse is run on.
 fn hunted(seed: u64) -> Vec<(Case, u64)> {
     let mut all: Vec<(Case, u64)> = (0..1_000).map(|number| random(seed, number)).collect();
+    all.extend(generate::two_operators().into_iter().map(|case| (case, seed)));
     let nests = (0..generate::nests()).flat_map(|number| around(number, ENTRIES[number % 3]));
     all.extend(limits().into_iter().chain(nests).map(|case| (case, seed)));
     all.extend((1_000..6_000).map(|number| random(seed, number)));
@@ -318,6 +324,36 @@ fn glued(list: &[u16], joints: &[u64], at: usize) -> u16 {
         Some(number) if joint => number as u16,
         _ => found::behind(list, at),
     }
+}
+
+/// The tokens of a glued operator, and its kind.
+fn operator(text: &str) -> ([u16; 2], u16) {
+    let parts: Vec<u16> = text::tokens(text).expect("tokens").into_iter().map(|(kind, _)| kind).collect();
+    ([parts[0], parts[1]], glued(&parts, &[1], 0))
+}
+
+/// Mode 1 with one glued operator taken for another: it is handed in as that one, and has its own name in a done list.
+fn reads_as(entry: u32, mode: u32, kinds: &[u16], joints: &[u64], room: &mut [u32], answer: &mut [u64], text: &str, other: &str) -> u32 {
+    let ((parts, own), (others, taken)) = (operator(text), operator(other));
+    let mut list = kinds.to_vec();
+    let is = |at: usize| mode == 1 && kinds[at..].starts_with(&parts) && joints.get(at / 64).is_some_and(|word| word >> (at % 64) & 1 == 1);
+    let places: Vec<usize> = (0..kinds.len()).filter(|&at| is(at)).collect();
+    places.iter().for_each(|&at| list[at..at + 2].copy_from_slice(&others));
+    let code = parse(entry, mode, &list, joints, room, answer);
+    let (events, mut tokens) = (if code == 0 { 2 * answer[1] as usize } else { 0 }, 0);
+    for pair in room[..events].chunks_mut(2) {
+        match Ev::of(pair[0], pair[1]) {
+            Some(Ev::Token(kind, raw)) => {
+                if kind == taken && places.contains(&tokens) {
+                    pair.copy_from_slice(&Ev::Token(own, raw).words());
+                }
+                tokens += raw as usize;
+            }
+            Some(Ev::Error(EXPECTED, kind, _)) => pair.copy_from_slice(&Ev::Error(EXPECTED, kind, found::behind(kinds, tokens)).words()),
+            _ => {}
+        }
+    }
+    code
 }
 
 /// The same list for every parse that is done.

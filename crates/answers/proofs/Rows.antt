@@ -3,7 +3,7 @@ use mathlib.Core.Path.{_≡_, refl}
 use mathlib.Core.List.{List, [], _∷_, _++_, map}
 use Prim.Native.Nat.{ℕ, _*_}
 use lib.ListN.{replicate}
-use Rattle.kinds.specs.Kinds.{ALIAS-DECLARATION-STATEMENT, AMP, ARG-LIST, BIN-EXPR, BREAK-KW, BREAK-STMT, CALL-EXPR, COMMA, EOF, EQ, EQ2, ERROR, EXPRESSION-LIST, IDENT, IDENTIFIER, INT-NUMBER, L-PAREN, LET-KW, LITERAL, MINUS, NAME, PREFIX-EXPR, R-CURLY, R-PAREN, RESET-KW, SEMICOLON, SOURCE-FILE, TOMBSTONE}
+use Rattle.kinds.specs.Kinds.{ALIAS-DECLARATION-STATEMENT, AMP, ARG-LIST, BIN-EXPR, BREAK-KW, BREAK-STMT, CALL-EXPR, COMMA, EOF, EQ, EQ2, ERROR, EXPRESSION-LIST, IDENT, IDENTIFIER, INT-NUMBER, L-ANGLE, L-PAREN, LET-KW, LITERAL, MINUS, NAME, PREFIX-EXPR, R-CURLY, R-PAREN, RESET-KW, SEMICOLON, SOURCE-FILE, TOMBSTONE}
 use Rattle.kinds.specs.Membership.{bit, oneOf}
 use Rattle.input.specs.Input.{seen}
 use Rattle.input.specs.Glue.{partsOf, standsAt}
@@ -91,6 +91,8 @@ rows =
     -- `a & b == c` in both modes
     ∷ parse (expression 0 (IDENT ∷ AMP ∷ IDENT ∷ EQ ∷ EQ ∷ IDENT ∷ []) 8 18) (ends (says 0 6 18 26) (wordsOf (Start TOMBSTONE 1 ∷ Start IDENTIFIER 3 ∷ Token IDENT 1 ∷ Finish ∷ Start BIN-EXPR 7 ∷ Token AMP 1 ∷ Start TOMBSTONE 1 ∷ Start IDENTIFIER 0 ∷ Token IDENT 1 ∷ Finish ∷ Finish ∷ Start BIN-EXPR 0 ∷ Token EQ2 2 ∷ Start TOMBSTONE 1 ∷ Start IDENTIFIER 0 ∷ Token IDENT 1 ∷ Finish ∷ Finish ∷ []))) (enter BIN-EXPR ∷ enter BIN-EXPR ∷ enter IDENTIFIER ∷ taken IDENT 1 ∷ leave ∷ taken AMP 1 ∷ enter IDENTIFIER ∷ taken IDENT 1 ∷ leave ∷ leave ∷ taken EQ2 2 ∷ enter IDENTIFIER ∷ taken IDENT 1 ∷ leave ∷ leave ∷ [])
     ∷ parse (expression 1 (IDENT ∷ AMP ∷ IDENT ∷ EQ ∷ EQ ∷ IDENT ∷ []) 8 18) (ends (says 0 6 18 26) (wordsOf (Start TOMBSTONE 1 ∷ Start IDENTIFIER 3 ∷ Token IDENT 1 ∷ Finish ∷ Start BIN-EXPR 0 ∷ Token AMP 1 ∷ Start TOMBSTONE 1 ∷ Start IDENTIFIER 3 ∷ Token IDENT 1 ∷ Finish ∷ Start BIN-EXPR 0 ∷ Token EQ2 2 ∷ Start TOMBSTONE 1 ∷ Start IDENTIFIER 0 ∷ Token IDENT 1 ∷ Finish ∷ Finish ∷ Finish ∷ []))) (enter BIN-EXPR ∷ enter IDENTIFIER ∷ taken IDENT 1 ∷ leave ∷ taken AMP 1 ∷ enter BIN-EXPR ∷ enter IDENTIFIER ∷ taken IDENT 1 ∷ leave ∷ taken EQ2 2 ∷ enter IDENTIFIER ∷ taken IDENT 1 ∷ leave ∷ leave ∷ leave ∷ [])
+    -- `a == b < c` in mode 1: a comparison binds tighter
+    ∷ parse (expression 1 (IDENT ∷ EQ ∷ EQ ∷ IDENT ∷ L-ANGLE ∷ IDENT ∷ []) 2 18) (ends (says 0 6 18 26) (wordsOf (Start TOMBSTONE 1 ∷ Start IDENTIFIER 3 ∷ Token IDENT 1 ∷ Finish ∷ Start BIN-EXPR 0 ∷ Token EQ2 2 ∷ Start TOMBSTONE 1 ∷ Start IDENTIFIER 3 ∷ Token IDENT 1 ∷ Finish ∷ Start BIN-EXPR 0 ∷ Token L-ANGLE 1 ∷ Start TOMBSTONE 1 ∷ Start IDENTIFIER 0 ∷ Token IDENT 1 ∷ Finish ∷ Finish ∷ Finish ∷ []))) (enter BIN-EXPR ∷ enter IDENTIFIER ∷ taken IDENT 1 ∷ leave ∷ taken EQ2 2 ∷ enter BIN-EXPR ∷ enter IDENTIFIER ∷ taken IDENT 1 ∷ leave ∷ taken L-ANGLE 1 ∷ enter IDENTIFIER ∷ taken IDENT 1 ∷ leave ∷ leave ∷ leave ∷ [])
     ∷ []
 
 table : map got rows ≡ map wanted rows

@@ -7,6 +7,7 @@ use native.Mathlib.Omega.{arith}
 use Rattle.kinds.specs.Kinds.{EOF, DOT3, SEMICOLON, LET-KW, L-BRACK}
 use Rattle.runtime.specs.declared.parser.Parser.{Parser}
 use Rattle.runtime.specs.declared.parser.Stop.the-variants.{Deep}
+use Rattle.kinds.specs.Membership.{oneOf}
 use Rattle.input.specs.Input.{Env}
 use Rattle.runtime.specs.State.{St, view, live, looked}
 use Rattle.runtime.specs.Acts as acts
@@ -14,8 +15,8 @@ use Rattle.runtime.specs.Acts.{Peeks, run, left, nth, at, start, atTs, sees, _>
 use Rattle.input.proofs.Reading.{unseen}
 use Rattle.runtime.proofs.Laws.{Spends, spends-nth, spends-at-ts, spends-bump, spends-stop, spends-eat, spends-cond, spends-first, spends-rest, spends-opening, left-unless, left-on, run-bind}
 use Rattle.operators.specs.declared.Op.{Op}
-use Rattle.operators.specs.Operators.{Table, tableOf, currentOp, arms, armOf}
-use Rattle.operators.proofs.Tables.{all-fair}
+use Rattle.operators.specs.Operators.{Table, Fair, currentOp, arms, armOf}
+use Rattle.operators.proofs.Tables.{near}
 use Rattle.grammar.specs.declared.Mark.{Mark}
 use Rattle.grammar.specs.declared.Shape.{Shape}
 use Rattle.grammar.specs.Grammar.{Counted}
@@ -77,18 +78,18 @@ op-dead : (e : Env) (p : Parser) → live p ≡ false → run e (armOf arms (kin
 unfolding run looked
 op-dead e p dead = rw (dead, unseen (e .kinds) (p .refused) (p .pos + 0) dead)
 
-pub no-power : (mode : ℕ) → tableOf mode DOT3 .power ≡ 0
-unfolding tableOf
-no-power zero = refl
-no-power (suc mode) = refl
+-- and no table has a power for it
+pub no-power : {ops : Table} → Fair ops → ops DOT3 .power ≡ 0
+unfolding oneOf
+no-power h = h .none DOT3 refl
 
-pub op-left : (e : Env) (mode : ℕ) (p : Parser) {o : Op} {q : Parser} → Peeks e (currentOp (tableOf mode)) p o q → 0 < o .power → 0 < left p
-op-left e mode p {o} d h =
-    left-unless p (λ dead. let z : o .power ≡ 0 = ap (λ (x : Op). x .power) (op-is e (tableOf mode) p d ∙ ap (opOf (tableOf mode)) (op-dead e p dead)) ∙ no-power mode in omega arith)
+pub op-left : (e : Env) {ops : Table} → Fair ops → (p : Parser) {o : Op} {q : Parser} → Peeks e (currentOp ops) p o q → 0 < o .power → 0 < left p
+op-left e {ops} h p {o} d some =
+    left-unless p (λ dead. let z : o .power ≡ 0 = ap (λ (x : Op). x .power) (op-is e ops p d ∙ ap (opOf ops) (op-dead e p dead)) ∙ no-power h in omega arith)
 
 -- its right side is not read below its power
-pub op-next : (e : Env) (mode : ℕ) (p : Parser) {o : Op} {q : Parser} → Peeks e (currentOp (tableOf mode)) p o q → o .power ≤ o .next
-op-next e mode p {o} d = subst (λ (x : Op). x .power ≤ x .next) (sym (op-is e (tableOf mode) p d)) (all-fair mode _ .1)
+pub op-next : (e : Env) {ops : Table} → Fair ops → (p : Parser) {o : Op} {q : Parser} → Peeks e (currentOp ops) p o q → o .power ≤ o .next
+op-next e {ops} h p {o} d = subst (λ (x : Op). x .power ≤ x .next) (sym (op-is e ops p d)) (near h _ .0)
 
 -- ---- where something is left
 

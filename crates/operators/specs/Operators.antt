@@ -1,9 +1,12 @@
 -- The operators: fn current_op of src/grammar/expressions.rs, line 167, and the powers of both modes (docs/RULES.md, section 8).
 -- Assumes nothing: these are definitions.
-use mathlib.Core.List.{List, [], _∷_}
-use Prim.Native.Nat.{ℕ, zero, suc, _+_, _-_, _*_}
+use mathlib.Core.Path.{_≡_}
+use mathlib.Core.List.{List, [], _∷_, _++_}
+use mathlib.Core.Bool.{Bool, true, false, cond}
+use Prim.Native.Nat.{ℕ, zero, suc, _+_, _-_, _*_, _≤_, _<_}
 use lib.Dec.{eqb}
-use mathlib.Core.Bool.{cond}
+use lib.ListN.{getD}
+use Rattle.kinds.specs.Membership.{oneOf}
 use Rattle.kinds.specs.Kinds.{PIPE, PIPE2, PIPEEQ, R-ANGLE, SHREQ, SHR, GTEQ, EQ, FAT-ARROW, EQ2, L-ANGLE, LTEQ, SHLEQ, SHL, PLUS, PLUSEQ, DOUBLE-PLUS, CARET, CARETEQ, PERCENT, PERCENTEQ, AMP, AMPEQ, AMP2, SLASH, SLASHEQ, STAR, STAREQ, DOT, DOT2EQ, DOT2, DOT3, BANG, NEQ, MINUS, MINUSEQ}
 use Rattle.runtime.specs.Acts.{Acts, Acts.done, _>>=_, at, current}
 use Rattle.operators.specs.declared.Op.{Op}
@@ -43,6 +46,11 @@ firstAt (k ∷ ks) plain = do
   b ← at k
   cond b (done k) (firstAt ks plain)
 
+-- what some arms can find
+abbrev pub finds : List Guards → List ℕ
+finds [] = []
+finds (g ∷ gs) = g .tried ++ g .plain ∷ finds gs
+
 abbrev pub armOf : List Guards → ℕ → Acts ℕ
 armOf [] k = done DOT3
 armOf (g ∷ gs) k = cond (eqb k (g .first)) (firstAt (g .tried) (g .plain)) (armOf gs k)
@@ -61,6 +69,55 @@ right n = record { power = n; next = n }
 -- a table of powers; power 0 is no operator
 abbrev pub Table : Type 0
 Table = ℕ → Power
+
+-- the operators that are left
+abbrev pub leftOperators : List ℕ
+leftOperators =
+    STAR ∷ SLASH ∷ PERCENT ∷ PLUS ∷ MINUS ∷ SHL ∷ SHR ∷ L-ANGLE ∷ LTEQ ∷ R-ANGLE ∷ GTEQ ∷ EQ2 ∷ NEQ ∷ AMP ∷ CARET ∷ PIPE ∷ AMP2 ∷ PIPE2
+    ∷ DOUBLE-PLUS ∷ DOT2 ∷ DOT2EQ ∷ []
+
+-- those that are right
+abbrev pub assignments : List ℕ
+assignments = EQ ∷ PIPEEQ ∷ SHREQ ∷ SHLEQ ∷ PLUSEQ ∷ CARETEQ ∷ PERCENTEQ ∷ AMPEQ ∷ SLASHEQ ∷ STAREQ ∷ MINUSEQ ∷ []
+
+abbrev pub operators : List ℕ
+operators = leftOperators ++ assignments
+
+-- how far above its operator's power a right side is read
+abbrev pub side : ℕ → ℕ
+side k = cond (oneOf assignments k) 0 1
+
+-- The facts about a table, whichever it is: what is no operator has power 0, each operator has one from 1 to 254, and a right side is read
+-- at its operator's power + 1 or, where that is an assignment, at its power.
+pub record Fair (ops : Table) : Type 0 where
+  pub none : (k : ℕ) → oneOf operators k ≡ false → ops k .power ≡ 0
+  pub least : (k : ℕ) → oneOf operators k ≡ true → 1 ≤ ops k .power
+  pub most : (k : ℕ) → ops k .power ≤ 254
+  pub right-side : (k : ℕ) → ops k .next ≡ ops k .power + side k
+
+-- The specification's order of its binary operators, tightest first; `**` is none of the crate's.
+abbrev pub specificationLines : List (List ℕ)
+specificationLines =
+    (STAR ∷ SLASH ∷ PERCENT ∷ [])
+    ∷ (PLUS ∷ MINUS ∷ [])
+    ∷ (SHL ∷ SHR ∷ [])
+    ∷ (L-ANGLE ∷ LTEQ ∷ R-ANGLE ∷ GTEQ ∷ [])
+    ∷ (EQ2 ∷ NEQ ∷ [])
+    ∷ (AMP ∷ [])
+    ∷ (CARET ∷ [])
+    ∷ (PIPE ∷ [])
+    ∷ (AMP2 ∷ [])
+    ∷ (PIPE2 ∷ [])
+    ∷ []
+
+-- an operator stands on a line, counted from 0
+abbrev pub stands : List (List ℕ) → ℕ → ℕ → Bool
+stands lines i = oneOf (getD lines i [])
+
+-- A table follows an order: one power on a line, and a greater one on each line above.
+pub record Follows (lines : List (List ℕ)) (ops : Table) : Type 0 where
+  pub alike : (i a b : ℕ) → stands lines i a ≡ true → stands lines i b ≡ true → ops a .power ≡ ops b .power
+  pub tighter : (i j a b : ℕ) → i < j → stands lines i a ≡ true → stands lines j b ≡ true → ops b .power < ops a .power
 
 abbrev pub listed : List (ℕ × Power) → Table
 listed [] k = left 0
@@ -90,7 +147,8 @@ specificationOrder =
     (STAR, left 18) ∷ (SLASH, left 18) ∷ (PERCENT, left 18)
     ∷ (PLUS, left 16) ∷ (MINUS, left 16)
     ∷ (SHL, left 14) ∷ (SHR, left 14)
-    ∷ (L-ANGLE, left 12) ∷ (R-ANGLE, left 12) ∷ (LTEQ, left 12) ∷ (GTEQ, left 12) ∷ (EQ2, left 12) ∷ (NEQ, left 12)
+    ∷ (L-ANGLE, left 12) ∷ (LTEQ, left 12) ∷ (R-ANGLE, left 12) ∷ (GTEQ, left 12)
+    ∷ (EQ2, left 11) ∷ (NEQ, left 11)
     ∷ (AMP, left 10)
     ∷ (CARET, left 8)
     ∷ (PIPE, left 6)
@@ -99,9 +157,13 @@ specificationOrder =
     ∷ (EQ, right 20)
     ∷ crateOrder
 
+-- the rows of a mode, and its table
+abbrev pub rowsOf : ℕ → List (ℕ × Power)
+rowsOf zero = crateOrder
+rowsOf (suc n) = specificationOrder
+
 unfoldable pub tableOf : ℕ → Table
-tableOf zero = listed crateOrder
-tableOf (suc n) = listed specificationOrder
+tableOf mode = listed (rowsOf mode)
 
 -- a power in one number, as the code has it: one more than its double where it is right
 abbrev pub packed : Power → ℕ

@@ -14,7 +14,7 @@ use Rattle.runtime.specs.Acts.{Acts, Acts.done, _>>=_, _>>_, run, step, at, sta
 use Rattle.runtime.proofs.Laws.{run-bind, goes-same, left-goes, left-sees, left-on, left-live, left-asked, Spends, spends-first, spends-rest, spends-bump}
 use Rattle.laws.proofs.Tests.{apart}
 use Rattle.operators.specs.declared.Op.{Op}
-use Rattle.operators.specs.Operators.{Table, tableOf, currentOp, arms, armOf}
+use Rattle.operators.specs.Operators.{Table, Fair, currentOp, arms, armOf}
 use Rattle.grammar.specs.declared.Got.{Got}
 use Rattle.grammar.specs.declared.Mark.the-variants.{Fresh}
 use Rattle.grammar.specs.declared.Shape.{Shape}
@@ -125,22 +125,22 @@ module _ (ops : Table) (n : ℕ) where
   unfolding E.postfixExprRound
   postfix-on = looking _ (λ Q e x s. on-cond Q e (x .2) _ _ s (λ q. on-last Q e x s) (λ q. on-last Q e x s))
 
--- Operators: a refused run finds none, and none has a power of 1 or more. No call asks for a least power of 0.
-dead-op : (e : Env) (mode : ℕ) (s : St) → live (s .p) ≡ false → run e (currentOp (tableOf mode)) s .0 .power ≡ 0
-unfolding currentOp run _>>=_
-dead-op e mode s dead =
-    ap (λ (o : Op × St). o .0 .power) (run-bind e current found s ∙ ap (λ (o : ℕ × St). run e (found (o .0)) (o .1)) (dead-look e s dead)) ∙ no-power mode
-  where
-    found : ℕ → Acts Op
-    found k = armOf arms k >>= (λ op. done (record { power = tableOf mode op .power; kind = op; next = tableOf mode op .next }))
+  -- Operators, of any fair table: a refused run finds none, and none has a power of 1 or more. No call asks for a least power of 0.
+  dead-op : Fair ops → (e : Env) (s : St) → live (s .p) ≡ false → run e (currentOp ops) s .0 .power ≡ 0
+  unfolding currentOp run _>>=_
+  dead-op fair e s dead =
+      ap (λ (o : Op × St). o .0 .power) (run-bind e current found s ∙ ap (λ (o : ℕ × St). run e (found (o .0)) (o .1)) (dead-look e s dead)) ∙ no-power fair
+    where
+      found : ℕ → Acts Op
+      found k = armOf arms k >>= (λ op. done (record { power = ops op .power; kind = op; next = ops op .next }))
 
-pub operators-on : (mode n : ℕ) (prefer : Bool) (bp : ℕ) → 1 ≤ bp → Onward (E.exprBpRound (counted (tableOf mode) n) (later (counted (tableOf mode) n)) (tableOf mode) prefer bp)
-unfolding E.exprBpRound
-operators-on mode n prefer bp h e x s = by (live (s .p)) refl
-  where
-    by : (b : Bool) → live (s .p) ≡ b → On (Less s) e (E.exprBpRound (counted (tableOf mode) n) (later (counted (tableOf mode) n)) (tableOf mode) prefer bp x) s
-    by true q = on-spent e _ s (spends-first (currentOp (tableOf mode)) _ (op-spends (tableOf mode))) (left-live (s .p) (eqb-true _ _ q))
-    by false q =
-        let l : run e (currentOp (tableOf mode)) s .0 .power < bp = omega (arith, dead-op e mode s q) in
-        on-then (Less s) e (currentOp (tableOf mode)) _ s
-        (on-cond (Less s) e (ltb (run e (currentOp (tableOf mode)) s .0 .power) bp) _ _ (run e (currentOp (tableOf mode)) s .1) (λ z. on-last (Less s) e x _) (λ z. apart (sym z ∙ lt-ltb _ bp l)))
+  pub operators-on : Fair ops → (prefer : Bool) (bp : ℕ) → 1 ≤ bp → Onward (E.exprBpRound (counted ops n) (later (counted ops n)) ops prefer bp)
+  unfolding E.exprBpRound
+  operators-on fair prefer bp h e x s = by (live (s .p)) refl
+    where
+      by : (b : Bool) → live (s .p) ≡ b → On (Less s) e (E.exprBpRound (counted ops n) (later (counted ops n)) ops prefer bp x) s
+      by true q = on-spent e _ s (spends-first (currentOp ops) _ (op-spends ops)) (left-live (s .p) (eqb-true _ _ q))
+      by false q =
+          let l : run e (currentOp ops) s .0 .power < bp = omega (arith, dead-op fair e s q) in
+          on-then (Less s) e (currentOp ops) _ s
+          (on-cond (Less s) e (ltb (run e (currentOp ops) s .0 .power) bp) _ _ (run e (currentOp ops) s .1) (λ z. on-last (Less s) e x _) (λ z. apart (sym z ∙ lt-ltb _ bp l)))

@@ -1,8 +1,6 @@
 -- `power_of` meets its contract. Assumes nothing.
-use mathlib.Core.Path.{sym, ap}
 use native.Mathlib.Omega.{arith}
-use Rattle.operators.specs.Operators.{packed, crateOrder, specificationOrder}
-use Rattle.operators.proofs.Tables.{agree, in-words, crateWords, specificationWords, mode-zero, mode-other, no-power}
+use Rattle.operators.proofs.Tables.{bytes, mode-byte, mode-past, rows-zero, rows-other}
 use borrow.Author.Needs.{needs}
 use Rattle.operators.proofs.power_of.Statement.{statement}
 use Rattle.operators.proofs.power_of.Tie as tie
@@ -26,8 +24,8 @@ shr-result : tie.Need-shr-result
 shr-result c = search needs
 
 returns : tie.Need-returns
-unfolding agree
-returns c = rw (mode-zero _ (c .if2 .taken)) (in-words 56 crateWords crateOrder tt (c .before .before .args .kind) (omega arith))
+unfolding bytes
+returns c = mode-byte _ (rows-zero _ (c .if2 .taken)) (c .before .before .args .kind) (omega arith)
 
 mul-result-2 : tie.Need-mul-result-2
 mul-result-2 c = search needs
@@ -42,11 +40,11 @@ shr-result-2 : tie.Need-shr-result-2
 shr-result-2 c = search needs
 
 returns-2 : tie.Need-returns-2
-unfolding agree
-returns-2 c = rw (mode-other _ (c .if2 .left)) (in-words 56 specificationWords specificationOrder tt (c .before .before .args .kind) (omega arith))
+unfolding bytes
+returns-2 c = mode-byte _ (rows-other _ (c .if2 .left)) (c .before .before .args .kind) (omega arith)
 
 returns-3 : tie.Need-returns-3
-returns-3 c = sym (ap packed (no-power (c .before .args .mode) (c .before .args .kind) (omega arith)))
+returns-3 c = mode-past _ (c .before .args .kind) (omega arith)
 
 pub power-of-spec : {M : Type 1} → statement M
 power-of-spec =

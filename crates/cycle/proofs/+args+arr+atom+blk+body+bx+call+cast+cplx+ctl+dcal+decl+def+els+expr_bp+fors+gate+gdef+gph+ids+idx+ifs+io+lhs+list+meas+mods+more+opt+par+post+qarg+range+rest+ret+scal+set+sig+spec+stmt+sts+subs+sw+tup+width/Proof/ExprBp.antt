@@ -14,6 +14,7 @@ use Rattle.grammar.specs.Entry.{counted, later}
 use Prim.Native.Nat.{ℕ}
 use Rattle.cycle.proofs.Depth.{exprBp-deeper}
 use Rattle.grammar.proofs.Spends.{op-spends, op-left, op-next}
+use Rattle.operators.proofs.Tables.{mode-fair}
 use Rattle.runtime.specs.Acts as acts
 use Rattle.grammar.specs.Expressions as E
 use Rattle.operators.proofs.current_op.Reads as current-op-reads
@@ -290,8 +291,8 @@ module _ (t : ℕ) where
           bump .bump .ensures .fit,
           omega (
             arith,
-            op-next _ _ _
-                (current-op .current-op .ensures),
+            op-next _ (mode-fair _)
+                _ (current-op .current-op .ensures),
             if4 .if4 .left,
             entry-expr-bp-arg c .pre .1 .1,
           ),
@@ -311,10 +312,9 @@ module _ (t : ℕ) where
       let current-op = if4 .before .before .before .before in
       lt-of-le-of-lt (spent-does _ _ _ (close-op .close-op .ensures)) (lt-of-le-of-lt (spent-does _ _ _ (expr-bp .expr-bp
       .ensures)) (lt-of-le-of-lt (spent-does _ _ _ (bump .bump .ensures)) (lt-of-le-of-lt (spent-steps _ _ (precede .precede
-      .ensures)) (falls-peeks _ _ _ (op-spends _) (op-left _ _ _ (current-op .current-op .ensures) (omega (
+      .ensures)) (falls-peeks _ _ _ (op-spends _) (op-left _ (mode-fair _) _ (current-op .current-op .ensures) (omega (
         arith,
-        if4 .if4
-            .left,
+        if4 .if4 .left,
         entry-cm2 c .pre .1 .1,
       ))) (current-op .current-op .ensures)))))
 
@@ -340,10 +340,9 @@ module _ (t : ℕ) where
             (ends _ _ _ (close-op .close-op .ensures .fit))))))))
             (lt-of-le-of-lt (spent-does _ _ _ (close-op .close-op .ensures)) (lt-of-le-of-lt (spent-does _ _ _ (expr-bp .expr-bp
             .ensures)) (lt-of-le-of-lt (spent-does _ _ _ (bump .bump .ensures)) (lt-of-le-of-lt (spent-steps _ _ (precede .precede
-            .ensures)) (falls-peeks _ _ _ (op-spends _) (op-left _ _ _ (current-op .current-op .ensures) (omega (
+            .ensures)) (falls-peeks _ _ _ (op-spends _) (op-left _ (mode-fair _) _ (current-op .current-op .ensures) (omega (
               arith,
-              if4 .if4
-                  .left,
+              if4 .if4 .left,
               entry-cm2 c .pre .1 .1,
             ))) (current-op .current-op .ensures)))))),
       )
