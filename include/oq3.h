@@ -26,8 +26,11 @@
 #include <stddef.h>
 #include <stdint.h>
 
-/* The version of the library: that of the crate oq3_parser whose parser it is, and a number that counts what this header has said. */
-#define OQ3_VERSION "0.7.0-2"
+/*
+ * The version of the library: that of the crate oq3_parser whose parser it is, and a number that is one more with each change of what this header
+ * says or a call answers.
+ */
+#define OQ3_VERSION "0.7.0-3"
 
 #ifdef __cplusplus
 extern "C" {

@@ -18,7 +18,7 @@ enum {
     L_PAREN = OQ3_KIND_L_PAREN, R_CURLY = OQ3_KIND_R_CURLY, MINUS = OQ3_KIND_MINUS, DEF_KW = OQ3_KIND_DEF_KW, DELAY_KW = OQ3_KIND_DELAY_KW,
     RESET_KW = OQ3_KIND_RESET_KW, INT_NUMBER = OQ3_KIND_INT_NUMBER, IDENT = OQ3_KIND_IDENT, SEMICOLON = OQ3_KIND_SEMICOLON, EQ = OQ3_KIND_EQ,
     EQ2 = OQ3_KIND_EQ2, ERROR = OQ3_KIND_ERROR, BIN_EXPR = OQ3_KIND_BIN_EXPR, IDENTIFIER = OQ3_KIND_IDENTIFIER, BREAK_KW = OQ3_KIND_BREAK_KW,
-    BREAK_STMT = OQ3_KIND_BREAK_STMT
+    BREAK_STMT = OQ3_KIND_BREAK_STMT, L_ANGLE = OQ3_KIND_L_ANGLE
 };
 
 static int failed;
@@ -244,6 +244,17 @@ int main(void)
     for (i = 0; i < words; i++) {
         IS(room[i], i % OQ3_EVENT_WORDS == 0 ? OQ3_EVENT_START : 0);
     }
+
+    /* a == b < c: the equality stands in the comparison in the crate's mode, with a distance to it, and around it in the specification's. */
+    const uint16_t compared[] = { IDENT, EQ, EQ, IDENT, L_ANGLE, IDENT };
+    tokens(compared, 6);
+    joints[0] = 2;
+    PARSES(OQ3_EXPRESSION, OQ3_MODE_CRATE, 6, 1, 36, OQ3_PARSE_WORDS, OQ3_DONE, 6, 18, 26);
+    IS(room[8], OQ3_EVENT_START + BIN_EXPR);
+    IS(room[9], 7);
+    PARSES(OQ3_EXPRESSION, OQ3_MODE_SPECIFICATION, 6, 1, 36, OQ3_PARSE_WORDS, OQ3_DONE, 6, 18, 26);
+    IS(room[8], OQ3_EVENT_START + BIN_EXPR);
+    IS(room[9], 0);
 
     /* The list of docs/RULES.md, section 9, with the kinds 40, 41, 50 and 51 that it has: 9 steps in 51 bytes. */
     const uint32_t nine[] = {
