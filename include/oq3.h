@@ -1,7 +1,7 @@
 /*
- * Grisolemp: a proved parser of OpenQASM 3 token lists, and a reader of the step files that it makes, for C99 and C++ on x86-64 Linux.
+ * Grisolemp: a proved lexer and parser of OpenQASM 3, and a reader of the step files that it makes, for C99 and C++ on x86-64 Linux.
  *
- *   liboq3.a        tools/library         all five functions; it needs nothing but memset
+ *   liboq3.a        tools/library         all six functions; it needs nothing but memset
  *   liboq3_read.a   tools/library read    oq3_read_file and oq3_read_step alone; it needs nothing at all, not even memset
  *
  * A program that parses links the first, one that only reads step files (docs/SEQUENCERS.md) the second; none needs both. The functions take
@@ -17,7 +17,7 @@
  *     not null and aligned, and is not read.
  *   - No two rooms of one call overlap, and nothing else reads or writes them while it runs.
  *   - OQ3_STACK bytes of stack are left. The proofs know no stack; tools/stack reads the bound off the compiled code. All but
- *     oq3_parse take a few hundred.
+ *     oq3_parse and oq3_lex, which holds its table there, take a few hundred.
  * Everything else may have any value: there is no further condition on any number, word or length.
  */
 #ifndef OQ3_H
@@ -30,7 +30,7 @@
  * The version of the library: that of the crate oq3_parser whose parser it is, and a number that is one more with each change of what this header
  * says or a call answers.
  */
-#define OQ3_VERSION "0.7.0-3"
+#define OQ3_VERSION "0.7.0-4"
 
 #ifdef __cplusplus
 extern "C" {
@@ -41,7 +41,8 @@ extern "C" {
  * stands in docs/PANICS.md. Written by tools/refusals from docs/RULES.md, section 3; ./check compares the two.
  */
 enum {
-    /* done; place: a parse: tokens consumed. The check: events. Resolution: bytes written. A step file: its length */
+    /* done; place: a parse: tokens consumed. The check: events. Resolution: bytes written. A step file: its length. Lexing: all tokens,
+     * trivia included */
     OQ3_DONE = 0,
     /* the mode is neither 0 nor 1; place: 0 */
     OQ3_BAD_MODE = 1,
@@ -72,6 +73,10 @@ enum {
     /* the records of a step file do not nest, or there is none; place: the first byte of the first record that breaks the nesting, or
      * the file's length where that is seen at the end */
     OQ3_BAD_NESTING = 13,
+    /* a text of more than 65,536 bytes; place: 0 */
+    OQ3_TEXT_TOO_LONG = 14,
+    /* one of the three rooms for a text's tokens is too small; place: all tokens, trivia included */
+    OQ3_NO_TEXT_ROOM = 15,
     /* from C: the answer room is too short; place: none */
     OQ3_NO_ANSWER_ROOM = 100,
     /* from C: the entry of a parse is none of the three; place: 0 */
@@ -91,11 +96,13 @@ enum {
     OQ3_EVENT_WORDS = 2,         /* words of one event */
     OQ3_MOST_ROOM = OQ3_EVENT_WORDS * OQ3_MOST_EVENTS, /* words of the largest event room */
     OQ3_MOST_STEPS = 655360,     /* bytes of the longest step file: ten for each event */
+    OQ3_MOST_TEXT = 65536,       /* bytes of the longest text */
     OQ3_STACK = 262144           /* bytes of stack that are enough for any call, on x86-64 */
 };
 
 /* The words of an answer room: at least so many must be lent, and further ones stay. */
 enum {
+    OQ3_LEX_WORDS = 2,   /* oq3_lex: place, kinds */
     OQ3_PARSE_WORDS = 3, /* oq3_parse: place, events, lookups */
     OQ3_LIST_WORDS = 1,  /* oq3_check and oq3_resolve: place */
     OQ3_FILE_WORDS = 2,  /* oq3_read_file: place, records */
@@ -105,11 +112,36 @@ enum {
 /* The least number of joint words for so many tokens. */
 #define OQ3_JOINT_WORDS(tokens) (((size_t)(tokens) + 63) / 64)
 
+/* The least number of list words for so many tokens of a text, trivia included. */
+#define OQ3_TOKEN_WORDS(tokens) (2 * (size_t)(tokens))
+
 /* An event room of so many words holds so many events. */
 #define OQ3_ROOM_WORDS(events) (OQ3_EVENT_WORDS * (size_t)(events))
 
 /* A step room of so many bytes is enough for every list of so many events. */
 #define OQ3_STEP_BYTES(events) (10 * (size_t)(events))
+
+/*
+ * Finds the tokens of a text: 0, 14 or 15. docs/LEXER.md has the rules of what a token is.
+ *
+ *   text    the bytes of a program, at most OQ3_MOST_TEXT; any byte may stand in it, 0 too
+ *   kinds   gets the kind of each token that is no white space and no comment
+ *   joints  gets a bit for each of these: 1 where the next byte begins another such token, else 0; laid out as oq3_parse reads it
+ *   tokens  gets two words for each token, white space and comments too: its kind and its length in bytes. The lengths add up to the text's
+ *   answer  at least OQ3_LEX_WORDS words: the number of all tokens, and the number of kinds. A refusal has 0 for the second. Further words stay
+ *
+ * Done, everything behind what is written stays as it was, the further bits of the last joint word too. Hand oq3_parse answer[1] kinds and the
+ * joint words: it is not refused with 3 or 4 then. Refused, no room is written. After a 15 answer[0] is the number n of all tokens, and n kinds,
+ * OQ3_JOINT_WORDS(n) joint words and OQ3_TOKEN_WORDS(n) list words are enough; the rooms may have no elements, so this can be asked for.
+ * Rooms for as many tokens as the text has bytes are always enough, and fastest: the tokens are not counted first then.
+ *
+ * No byte is refused: one that begins no token is an OQ3_KIND_ERROR of one byte, and the tree of the program has an error.
+ */
+uint32_t oq3_lex(const uint8_t *text, size_t text_length,
+                 uint16_t *kinds, size_t kinds_length,
+                 uint64_t *joints, size_t joints_length,
+                 uint32_t *tokens, size_t tokens_length,
+                 uint64_t *answer, size_t answer_length);
 
 /*
  * Parses tokens into a list of events.

@@ -7,13 +7,13 @@ COLUMNS = ["number", "condition", "place", "lent room afterwards", "in C"]
 
 
 def told():
-    """What the program steps says of each number from 0 to 10: the last table of section 10."""
+    """What the program steps says of each number from 0 on, nothing of those that it never gives: the last table of section 10."""
     with open(os.path.join(TOP, "docs/RULES.md")) as f:
         section = f.read().split("\n## ")[10]
     assert section.startswith("10. "), section[:20]
     rows = dict(re.findall(r"^\| (\d+) \| (.*) \|$", section, re.M))
-    assert list(rows) == [str(n) for n in range(1, 11)], list(rows)
-    return ["done"] + list(rows.values())
+    assert list(rows) == [str(n) for n in [*range(1, 11), 14, 15]], list(rows)
+    return ["done"] + [rows.get(str(n), "") for n in range(1, 16)]
 
 
 def refusals():

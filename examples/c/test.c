@@ -18,7 +18,7 @@ enum {
     L_PAREN = OQ3_KIND_L_PAREN, R_CURLY = OQ3_KIND_R_CURLY, MINUS = OQ3_KIND_MINUS, DEF_KW = OQ3_KIND_DEF_KW, DELAY_KW = OQ3_KIND_DELAY_KW,
     RESET_KW = OQ3_KIND_RESET_KW, INT_NUMBER = OQ3_KIND_INT_NUMBER, IDENT = OQ3_KIND_IDENT, SEMICOLON = OQ3_KIND_SEMICOLON, EQ = OQ3_KIND_EQ,
     EQ2 = OQ3_KIND_EQ2, ERROR = OQ3_KIND_ERROR, BIN_EXPR = OQ3_KIND_BIN_EXPR, IDENTIFIER = OQ3_KIND_IDENTIFIER, BREAK_KW = OQ3_KIND_BREAK_KW,
-    BREAK_STMT = OQ3_KIND_BREAK_STMT, L_ANGLE = OQ3_KIND_L_ANGLE
+    BREAK_STMT = OQ3_KIND_BREAK_STMT, L_ANGLE = OQ3_KIND_L_ANGLE, WHITESPACE = OQ3_KIND_WHITESPACE, COMMENT = OQ3_KIND_COMMENT
 };
 
 static int failed;
@@ -39,11 +39,13 @@ static uint64_t joints_all[GUARD + JOINTS + GUARD], *const joints = joints_all +
 static uint32_t room_all[GUARD + OQ3_MOST_ROOM + OQ3_EVENT_WORDS + GUARD], *const room = room_all + GUARD;
 static uint8_t steps_all[GUARD + STEPS + GUARD], *const steps = steps_all + GUARD;
 static uint64_t answer_all[GUARD + 8 + GUARD], *const answer = answer_all + GUARD;
+static uint8_t text_all[GUARD + OQ3_MOST_TEXT + 1 + GUARD], *const text = text_all + GUARD;
 
 static uint16_t kinds_before[GUARD + OQ3_MOST_TOKENS + 1 + GUARD];
 static uint64_t joints_before[GUARD + JOINTS + GUARD];
 static uint32_t room_before[GUARD + OQ3_MOST_ROOM + OQ3_EVENT_WORDS + GUARD];
 static uint8_t steps_before[GUARD + STEPS + GUARD];
+static uint8_t text_before[GUARD + OQ3_MOST_TEXT + 1 + GUARD];
 
 static void fill(void)
 {
@@ -51,6 +53,7 @@ static void fill(void)
     memset(joints_all, 0xa5, sizeof joints_all);
     memset(room_all, 0xa5, sizeof room_all);
     memset(steps_all, 0xa5, sizeof steps_all);
+    memset(text_all, 0xa5, sizeof text_all);
 }
 
 static void begin(void)
@@ -60,6 +63,7 @@ static void begin(void)
     memcpy(joints_before, joints_all, sizeof joints_all);
     memcpy(room_before, room_all, sizeof room_all);
     memcpy(steps_before, steps_all, sizeof steps_all);
+    memcpy(text_before, text_all, sizeof text_all);
 }
 
 /* Whether all bytes of `all` outside of the elements [from, from + count) are as in `before`. */
@@ -71,15 +75,44 @@ static int kept(const void *all, const void *before, size_t size, size_t each, s
 
 static uint8_t answer_before[sizeof answer_all];
 
-/* After a call: it may have changed so many words of the room, bytes of the step room and words of the answer, and nothing else. */
-static void ended(int line, size_t room_length, size_t steps_length, size_t answer_length)
+/* After a call: of each room it may have changed so many elements, and nothing else. */
+static void changed(int line, size_t kinds_length, size_t joints_length, size_t room_length, size_t steps_length, size_t answer_length)
 {
     memset(answer_before, 0xa5, sizeof answer_before);
-    is(line, "kinds kept", (uint64_t)kept(kinds_all, kinds_before, sizeof kinds_all, 2, 0, 0), 1);
-    is(line, "joint words kept", (uint64_t)kept(joints_all, joints_before, sizeof joints_all, 8, 0, 0), 1);
+    is(line, "the text kept", (uint64_t)kept(text_all, text_before, sizeof text_all, 1, 0, 0), 1);
+    is(line, "kinds kept", (uint64_t)kept(kinds_all, kinds_before, sizeof kinds_all, 2, GUARD, kinds_length), 1);
+    is(line, "joint words kept", (uint64_t)kept(joints_all, joints_before, sizeof joints_all, 8, GUARD, joints_length), 1);
     is(line, "words beside the room kept", (uint64_t)kept(room_all, room_before, sizeof room_all, 4, GUARD, room_length), 1);
     is(line, "bytes beside the step room kept", (uint64_t)kept(steps_all, steps_before, sizeof steps_all, 1, GUARD, steps_length), 1);
     is(line, "words beside the answer kept", (uint64_t)kept(answer_all, answer_before, sizeof answer_all, 8, GUARD, answer_length), 1);
+}
+
+/* The same of a call that changes no tokens. */
+static void ended(int line, size_t room_length, size_t steps_length, size_t answer_length)
+{
+    changed(line, 0, 0, room_length, steps_length, answer_length);
+}
+
+/* The text room holds a text, and all else is as at the beginning. */
+static void write_text(const char *bytes, size_t count)
+{
+    fill();
+    memcpy(text, bytes, count);
+}
+
+/* A lexing of the first bytes of the text room, with the event room for the list: its number, all tokens and the number of kinds. */
+static void lexes(int line, size_t bytes, size_t kinds_length, size_t joints_length, size_t words, size_t answers, uint32_t number, uint64_t place,
+                  uint64_t count)
+{
+    int done = number == OQ3_DONE;
+    begin();
+    is(line, "the number", oq3_lex(text, bytes, kinds, kinds_length, joints, joints_length, room, words, answer, answers), number);
+    changed(line, done ? (size_t)count : 0, done ? OQ3_JOINT_WORDS(count) : 0, done ? 2 * (size_t)place : 0, 0,
+            number == OQ3_NO_ANSWER_ROOM ? 0 : OQ3_LEX_WORDS);
+    if (number != OQ3_NO_ANSWER_ROOM) {
+        is(line, "all tokens", answer[0], place);
+        is(line, "the kinds", answer[1], count);
+    }
 }
 
 /* A parse: its number, place, events and lookups, and of the room how many words may change. */
@@ -170,6 +203,7 @@ static void record(int line, const uint8_t *bytes, size_t count, uint32_t number
     }
 }
 
+#define LEXES(...) lexes(__LINE__, __VA_ARGS__)
 #define PARSES(...) parses(__LINE__, __VA_ARGS__)
 #define CHECKS(...) checks(__LINE__, __VA_ARGS__)
 #define RESOLVES(...) resolves(__LINE__, __VA_ARGS__)
@@ -204,6 +238,57 @@ static void same(uint16_t kind, size_t count)
 int main(void)
 {
     size_t i;
+
+    /* No text: nothing is written. A text of more than 65,536 bytes is told first, whatever the rooms. */
+    fill();
+    LEXES(0, 0, 0, 0, OQ3_LEX_WORDS, OQ3_DONE, 0, 0);
+    LEXES(0, 0, 0, 0, OQ3_LEX_WORDS - 1, OQ3_NO_ANSWER_ROOM, 0, 0);
+    LEXES(OQ3_MOST_TEXT + 1, 0, 0, 0, OQ3_LEX_WORDS, OQ3_TEXT_TOO_LONG, 0, 0);
+    LEXES(OQ3_MOST_TEXT + 1, 0, 0, 0, 0, OQ3_NO_ANSWER_ROOM, 0, 0);
+    LEXES(OQ3_MOST_TEXT + 1, OQ3_MOST_TOKENS, JOINTS, OQ3_MOST_ROOM, OQ3_LEX_WORDS + 1, OQ3_TEXT_TOO_LONG, 0, 0);
+
+    /* a == b and a comment: nine tokens, four of them no trivia; one touches such a one. Each room one short, then just enough, then more. */
+    const char equals[] = "a == b // c\n";
+    const uint16_t equals_kinds[] = { IDENT, EQ, EQ, IDENT };
+    const uint32_t equals_list[] = { IDENT, 1, WHITESPACE, 1, EQ, 1, EQ, 1, WHITESPACE, 1, IDENT, 1, WHITESPACE, 1, COMMENT, 4, WHITESPACE, 1 };
+    const size_t bytes = sizeof equals - 1;
+    write_text(equals, bytes);
+    LEXES(bytes, 3, 1, 18, OQ3_LEX_WORDS, OQ3_NO_TEXT_ROOM, 9, 0);
+    LEXES(bytes, 4, 0, 18, OQ3_LEX_WORDS, OQ3_NO_TEXT_ROOM, 9, 0);
+    LEXES(bytes, 4, 1, 17, OQ3_LEX_WORDS, OQ3_NO_TEXT_ROOM, 9, 0);
+    LEXES(bytes, 0, 0, 0, OQ3_LEX_WORDS, OQ3_NO_TEXT_ROOM, 9, 0);
+    LEXES(bytes, 4, 1, 18, OQ3_LEX_WORDS - 1, OQ3_NO_ANSWER_ROOM, 0, 0);
+    LEXES(bytes, 4, 1, 18, OQ3_LEX_WORDS, OQ3_DONE, 9, 4);
+    write_text(equals, bytes);
+    LEXES(bytes, OQ3_MOST_TOKENS, JOINTS, OQ3_MOST_ROOM, OQ3_LEX_WORDS + 1, OQ3_DONE, 9, 4);
+    is(__LINE__, "the kinds", (uint64_t)memcmp(kinds, equals_kinds, sizeof equals_kinds), 0);
+    is(__LINE__, "the list", (uint64_t)memcmp(room, equals_list, sizeof equals_list), 0);
+    /* the bits of the last joint word behind the last token stay, and a parse does not look at them */
+    IS(joints[0], 0xa5a5a5a5a5a5a5a2);
+    PARSES(OQ3_EXPRESSION, OQ3_MODE_CRATE, 4, 1, 100, OQ3_PARSE_WORDS, OQ3_DONE, 4, 11, 17);
+
+    /* 65 tokens that touch: all bits of one word, and one of the next. Then a long word, a CR LF, and a letter of two bytes, an error for each. */
+    write_text("", 0);
+    memset(text, ';', 65);
+    LEXES(65, 65, 1, 130, OQ3_LEX_WORDS, OQ3_NO_TEXT_ROOM, 65, 0);
+    LEXES(65, 65, 2, 130, OQ3_LEX_WORDS, OQ3_DONE, 65, 65);
+    IS(joints[0], UINT64_MAX);
+    IS(joints[1], 0xa5a5a5a5a5a5a5a4);
+    write_text("defcalgrammar\r\n\316\270", 17);
+    LEXES(17, 3, 1, 8, OQ3_LEX_WORDS, OQ3_DONE, 4, 3);
+    IS(room[0], OQ3_KIND_DEFCALGRAMMAR_KW);
+    IS(room[1], 13);
+    IS(room[3], 2);
+    IS(room[4], ERROR);
+    IS(room[5], 1);
+    IS(joints[0], 0xa5a5a5a5a5a5a5a2);
+
+    /* The longest text: one token, and as many as it has bytes. */
+    memset(text, ' ', OQ3_MOST_TEXT);
+    LEXES(OQ3_MOST_TEXT, 0, 0, 2, OQ3_LEX_WORDS, OQ3_DONE, 1, 0);
+    IS(room[1], OQ3_MOST_TEXT);
+    memset(text, '"', OQ3_MOST_TEXT);
+    LEXES(OQ3_MOST_TEXT, OQ3_MOST_TOKENS, JOINTS, OQ3_MOST_ROOM, OQ3_LEX_WORDS, OQ3_NO_TEXT_ROOM, OQ3_MOST_TEXT, 0);
 
     /* An empty source file: a start and its finish, no lookup. Rooms of no elements are lent with a pointer into their guards. */
     const uint32_t empty[] = { OQ3_EVENT_START + OQ3_KIND_SOURCE_FILE, 0, OQ3_EVENT_FINISH, 0 };
@@ -486,6 +571,7 @@ int main(void)
     IS(OQ3_EVENT_FINISH, 131072);
     IS(OQ3_EVENT_TOKEN, 196608);
     IS(OQ3_EVENT_ERROR, 262144);
+    IS(OQ3_MOST_TEXT, 65536);
     IS(OQ3_MOST_TOKENS, 8192);
     IS(OQ3_MOST_EVENTS, 65536);
     IS(OQ3_MOST_ROOM, OQ3_ROOM_WORDS(OQ3_MOST_EVENTS));

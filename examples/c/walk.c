@@ -1,7 +1,7 @@
 /*
  * Parses a small program, resolves it, reads its step file and prints the tree; then the same of its beginning, where a token is missing; then
- * shows a refusal. The tokens come from a lexer that is not part of the library: here they are written out, with the names of oq3_kinds.h.
- * sequencer.c reads a step file that another program has made.
+ * shows a refusal. The tokens are written out here, with the names of oq3_kinds.h; text.c has them from a text, by oq3_lex. sequencer.c reads a
+ * step file that another program has made.
  */
 #include <stdio.h>
 

@@ -9,6 +9,9 @@ use Rattle.events.specs.Resolve.{Outcome, ends, panics, resolved}
 use Rattle.parse.specs.declared.Answer.{Answer}
 use Rattle.parse.specs.declared.Entry.the-variants.{SourceFile, Item, Expression}
 use Rattle.parse.specs.Parse as P
+use Rattle.lex.specs.declared.Answer as L
+use Rattle.lex.specs.Lexing.{lent, lexing}
+use Rattle.lex.specs.Lexing as X
 
 -- the number returned, the words, the step room and the answer room
 pub data Call : Type 0 where
@@ -47,3 +50,23 @@ entered (suc (suc (suc n))) mode kinds joints ws = P.ends (P.refuses 101 0) ws
 
 unfoldable pub parses : ℕ → ℕ → List ℕ → List ℕ → List ℕ → List ℕ → Call
 parses entry mode kinds joints ws room = cond (ltb (length room) 3) (returns 100 ws [] room) (toldParse room (entered entry mode kinds joints ws))
+
+-- A lexing: the number returned, the three rooms and the answer room, with place and kinds in its first two words.
+pub record LexCall : Type 0 where
+  pub number : ℕ
+  pub kinds : List ℕ
+  pub joints : List ℕ
+  pub tokens : List ℕ
+  pub answer : List ℕ
+
+abbrev pub lexReturns : ℕ → List ℕ → List ℕ → List ℕ → List ℕ → LexCall
+lexReturns n kinds joints tokens answer = record { number = n; kinds = kinds; joints = joints; tokens = tokens; answer = answer }
+
+abbrev pub two : L.Answer → List ℕ → List ℕ
+two a room = set (set room 0 (a .place)) 1 (a .kinds)
+
+abbrev pub toldLex : List ℕ → X.Outcome → LexCall
+toldLex room o = lexReturns (o .answer .code) (o .kinds) (o .joints) (o .tokens) (two (o .answer) room)
+
+unfoldable pub lexes : List ℕ → List ℕ → List ℕ → List ℕ → List ℕ → LexCall
+lexes text kinds joints tokens room = cond (ltb (length room) 2) (lexReturns 100 kinds joints tokens room) (toldLex room (lexing (lent text kinds joints tokens)))

@@ -1,6 +1,6 @@
 // The public calls for C and Rust. A slice passes as a pointer and a length. A call returns the number of docs/RULES.md and writes its
-// place to the first word of a lent answer room, a parse its events and lookups to the next two. Where that room is too short it returns
-// 100, and reads and writes nothing.
+// place to the first word of a lent answer room, a parse its events and lookups to the next two, a lexing its kinds to the second. Where that
+// room is too short it returns 100, and reads and writes nothing.
 use parse::Answer;
 use parse::Entry;
 ghost use mathlib.Core.Path.{_≡_};
@@ -8,7 +8,7 @@ ghost use mathlib.Core.List.{[]};
 ghost use Prim.Native.Nat.{_≤_};
 ghost use lib.ListN.{length};
 ghost use Rattle.parse.specs.Parse.{lent, parsed};
-ghost use Rattle.oq3.specs.Calls.{checks, resolves, returns, three, toldParse, parses};
+ghost use Rattle.oq3.specs.Calls.{checks, resolves, returns, three, toldParse, parses, lexReturns, lexes};
 
 // Writes the place, the events and the lookups of an answer, and hands its number back.
 fn tell(answer: &mut [u64], a: Answer) -> u32
@@ -93,4 +93,23 @@ pub extern "C" fn oq3_resolve(words: &mut [u32], steps: &mut [u8], answer: &mut 
     let a = events::resolve(words, steps);
     answer[0] = a.place() as u64;
     a.code()
+}
+
+#[no_mangle]
+pub extern "C" fn oq3_lex(
+    text: &[u8],
+    kinds: &mut [u16],
+    joints: &mut [u64],
+    tokens: &mut [u32],
+    answer: &mut [u64],
+) -> u32
+    ensures { λ r. ⌜ lexes (now (text .entry)) (now (kinds .entry)) (now (joints .entry)) (now (tokens .entry)) (now (answer .entry)) ≡ lexReturns r (now (kinds .exit)) (now (joints .exit)) (now (tokens .exit)) (now (answer .exit)) ⌝ }
+{
+    if answer.len() < 2 {
+        return 100;
+    }
+    let a = lex::lex(text, kinds, joints, tokens);
+    answer[0] = a.place as u64;
+    answer[1] = a.kinds as u64;
+    a.code
 }

@@ -475,8 +475,8 @@ pub fn messages() -> [u8; 1265]
 }
 
 // What is said of the number of an answer (docs/RULES.md, section 10).
-pub fn numbers() -> [u8; 384]
-    ensures { λ r. ⌜ 384 ≡ length r ⌝ }
+pub fn numbers() -> [u8; 459]
+    ensures { λ r. ⌜ 459 ≡ length r ⌝ }
 {
     *b"\
     done\n\
@@ -490,5 +490,10 @@ pub fn numbers() -> [u8; 384]
     what must stand here does not, and there is no message for it\n\
     the events make no tree\n\
     the steps find no room\n\
+    \n\
+    \n\
+    \n\
+    the text has more than 65,536 bytes\n\
+    the tokens of the text find no room\n\
 "
 }

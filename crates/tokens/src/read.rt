@@ -17,11 +17,13 @@ pub enum Entry {
     Expr,
 }
 
-// What a text asks for: the entry, the mode, and how many tokens are held; whether a word of it is neither a token nor a directive.
+// What a text asks for: the entry, the mode, and how many tokens are held; the place at which OpenQASM text begins, 0 for none; whether a
+// word of it is neither a token nor a directive.
 pub struct Asked {
     pub entry: Entry,
     pub mode: u32,
     pub count: usize,
+    pub source: usize,
     pub bad: bool,
 }
 
@@ -31,6 +33,7 @@ impl Asked {
             entry: entry,
             mode: self.mode,
             count: self.count,
+            source: self.source,
             bad: self.bad,
         }
     }
@@ -42,6 +45,11 @@ impl Asked {
 
     fn with_count(mut self, count: usize) -> Self {
         self.count = count;
+        self
+    }
+
+    fn with_source(mut self, source: usize) -> Self {
+        self.source = source;
         self
     }
 
@@ -172,11 +180,16 @@ enum Word {
     Token { kind: u16, joint: bool },
     Entry(Entry),
     Mode(u32),
+    Text,
     Bad(u64),
 }
 
 fn directive_of(word: &[u8]) -> Word {
-    let f = find(b"!source\n!item\n!expr\n!mode0\n!mode1\n", word, true);
+    let f = find(
+        b"!source\n!item\n!expr\n!mode0\n!mode1\n!text\n",
+        word,
+        true,
+    );
     let number = f.number;
     match number {
         0 => Word::Entry(Entry::Source),
@@ -184,6 +197,7 @@ fn directive_of(word: &[u8]) -> Word {
         2 => Word::Entry(Entry::Expr),
         3 => Word::Mode(0),
         4 => Word::Mode(1),
+        5 => Word::Text,
         _ => Word::Bad(1),
     }
 }
@@ -224,19 +238,23 @@ fn hold(a: Asked, kind: u16, joint: bool, kinds: &mut [u16], joints: &mut [u64])
     a.with_count(i + 1)
 }
 
-// Takes the word that begins at a place.
+// Takes the word that begins at a place and ends at another. Behind `!text` and the byte that ends it stands OpenQASM text.
 fn take(
     text: &[u8],
     from: usize,
+    end: usize,
     word: &[u8],
     a: Asked,
     kinds: &mut [u16],
     joints: &mut [u64],
-) -> Asked {
+) -> Asked
+    requires { ⌜ end ≤ length (now text) ⌝ }
+{
     match word_of(word, a.count) {
         Word::Token { kind, joint } => hold(a, kind, joint, kinds, joints),
         Word::Entry(e) => a.with_entry(e),
         Word::Mode(m) => a.with_mode(m),
+        Word::Text => a.with_source(past(text, end)),
         Word::Bad(what) => {
             say_bad(text, from, word, what);
             a.with_bad()
@@ -244,19 +262,46 @@ fn take(
     }
 }
 
-// Reads a text, and says of each word that is bad where it stands.
+// Reads a text up to its end or to OpenQASM text, and says of each word that is bad where it stands.
 pub fn read(text: &[u8], kinds: &mut [u16], joints: &mut [u64]) -> Asked {
     let mut a = Asked {
         entry: Entry::Source,
         mode: 0,
         count: 0,
+        source: 0,
         bad: false,
     };
     let mut i = word_start(text, 0);
     while i < text.len() {
         let end = word_end(text, i + 1);
-        a = take(text, i, &text[i..end], a, kinds, joints);
+        a = take(text, i, end, &text[i..end], a, kinds, joints);
+        if a.source > 0 {
+            return a;
+        }
         i = word_start(text, end);
     }
     a
+}
+
+// Whether a text leads to OpenQASM text by directives alone.
+pub fn has_source(text: &[u8]) -> bool {
+    let mut i = word_start(text, 0);
+    while i < text.len() {
+        let end = word_end(text, i + 1);
+        match directive_of(&text[i..end]) {
+            Word::Token { kind: _, joint: _ } => {
+                return false;
+            }
+            Word::Entry(_) => {}
+            Word::Mode(_) => {}
+            Word::Text => {
+                return true;
+            }
+            Word::Bad(_) => {
+                return false;
+            }
+        }
+        i = word_start(text, end);
+    }
+    false
 }

@@ -37,6 +37,15 @@ part-take-end c = omega arith
 take-requires : tie.Need-take-requires Inv-loop μ-loop
 take-requires c κs = search needs
 
+same-length : tie.Need-same-length Inv-loop μ-loop
+same-length c = omega arith
+
+same-length-2 : tie.Need-same-length-2 Inv-loop μ-loop
+same-length-2 c = omega arith
+
+returns : tie.Need-returns Inv-loop μ-loop
+returns c = omega arith
+
 word-start-requires-2 : tie.Need-word-start-requires-2 Inv-loop μ-loop
 word-start-requires-2 c κs = search needs
 
@@ -46,14 +55,14 @@ loop-less c = omega arith
 loop-again : tie.Need-loop-again Inv-loop μ-loop
 loop-again c = omega arith
 
-same-length : tie.Need-same-length Inv-loop μ-loop
-same-length c = omega arith
+same-length-3 : tie.Need-same-length-3 Inv-loop μ-loop
+same-length-3 c = omega arith
 
-same-length-2 : tie.Need-same-length-2 Inv-loop μ-loop
-same-length-2 c = omega arith
+same-length-4 : tie.Need-same-length-4 Inv-loop μ-loop
+same-length-4 c = omega arith
 
-returns : tie.Need-returns Inv-loop μ-loop
-returns c = omega arith
+returns-2 : tie.Need-returns-2 Inv-loop μ-loop
+returns-2 c = omega arith
 
 pub read-spec : {M : Type 1} → statement M
 read-spec =
@@ -69,9 +78,12 @@ read-spec =
     part-take-start
     part-take-end
     take-requires
+    same-length
+    same-length-2
+    returns
     word-start-requires-2
     loop-less
     loop-again
-    same-length
-    same-length-2
-    returns)
+    same-length-3
+    same-length-4
+    returns-2)

@@ -1,0 +1,4 @@
+pub mod Steps
+pub mod Covered
+pub mod Theorems
+pub mod Examples

@@ -1,0 +1,1 @@
+// Proofs alone: what lexing and parsing together say and leave.

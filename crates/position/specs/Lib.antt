@@ -1,0 +1,3 @@
+pub mod Position
+pub mod Inside
+pub mod Examples
