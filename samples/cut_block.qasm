@@ -1,0 +1,6 @@
+// Broken: the file ends inside a block.
+qubit q;
+while (true) {
+    x q;
+    if (ready) {
+        break;

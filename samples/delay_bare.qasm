@@ -1,0 +1,3 @@
+// Broken: a delay without its duration, where the crate panics.
+qubit q;
+delay q;

@@ -1,0 +1,2 @@
+// One expression, with the operators of the specification.
+a & b == c << 2 + -d
