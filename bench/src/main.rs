@@ -4,6 +4,9 @@
 //!     bench time FILE                       a line for each program, half and room: the ratio of the two times
 //!     bench repeat FILE PROGRAM SIDE COUNT  COUNT turns of one side, for an instrument that counts
 //!     bench steps FILE PROGRAM              writes the step file of a program
+//!     bench texts FOLDER                    writes programs as text (lex.rs)
+//!     bench lex FOLDER                      a line for each of these texts, lexed and from text to steps: the ratio of the two times
+//!     bench lexing FOLDER SIDE COUNT        COUNT turns of one side of that
 //!
 //! A SIDE is `crate`, `port` (rooms of the size needed) or `largest` (the largest rooms), with `-both` behind it where the list is resolved
 //! too. Nothing is cleared between two calls by the caller.
@@ -15,6 +18,7 @@ use std::hint::black_box;
 use std::io::Write;
 use std::time::{Duration, Instant};
 
+mod lex;
 #[path = "../../differential/src/port.rs"]
 mod port;
 
@@ -271,8 +275,12 @@ fn main() {
         ["time", path] => time(path),
         ["repeat", path, number, side, count] => repeat(path, number.parse().expect("a number"), side, count.parse().expect("a count")),
         ["steps", path, number] => steps(path, number.parse().expect("a number")),
+        ["texts", folder] => lex::texts(folder),
+        ["lex", folder] => std::process::exit(if lex::time(folder) { 0 } else { 1 }),
+        ["lexing", folder, side, count] => lex::repeat(folder, side, count.parse().expect("a count")),
         _ => {
             eprintln!("bench: programs, time FILE, repeat FILE PROGRAM SIDE COUNT, steps FILE PROGRAM");
+            eprintln!("bench: texts FOLDER, lex FOLDER, lexing FOLDER SIDE COUNT");
             std::process::exit(2);
         }
     }

@@ -74,8 +74,12 @@ pub const LAST: u16 = SyntaxKind::__LAST as u16;
 
 /// One run: token kinds (each at most `LAST`), joint words (one for every 64 tokens begun), and what the run may use.
 pub fn parse(entry: Entry, kinds: &[u16], joints: &[u64], bounds: Bounds) -> Run {
-    let input = input(kinds, joints);
-    let mut p = Parser::new(&input);
+    run(entry, &input(kinds, joints), bounds)
+}
+
+/// One run on an input.
+pub(crate) fn run(entry: Entry, input: &Input, bounds: Bounds) -> Run {
+    let mut p = Parser::new(input);
     limit::begin(bounds.lookups);
     watch::begin(bounds.room, bounds.depth);
     let ran = answer::caught(|| match entry {

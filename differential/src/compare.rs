@@ -5,10 +5,12 @@ use answer::{set_hook, with_stack};
 mod events;
 mod files;
 mod lent;
+mod lex;
 mod parse;
 mod port;
 mod wrong;
 mod wrong_files;
+mod wrong_lex;
 mod wrong_parse;
 
 fn main() {
@@ -20,6 +22,7 @@ fn main() {
             ("events", Ok(count), Ok(seed)) => wrong::run(seed) && events::run(count, seed),
             ("parse", Ok(count), Ok(seed)) => wrong_parse::run(seed) && parse::run(count, seed),
             ("files", Ok(count), Ok(seed)) => wrong_files::run(seed) && files::run(count, seed),
+            ("lex", Ok(count), Ok(seed)) => wrong_lex::run(seed) && lex::run(count, seed),
             _ => usage(),
         },
         _ => usage(),
@@ -28,6 +31,6 @@ fn main() {
 }
 
 fn usage() -> bool {
-    eprintln!("usage: compare events|parse|files COUNT SEED");
+    eprintln!("usage: compare events|parse|files|lex COUNT SEED");
     false
 }

@@ -33,6 +33,11 @@ impl<T: Copy + PartialEq> Lent<T> {
         &std::hint::black_box(&self.all)[self.from..self.to]
     }
 
+    /// What stood there before.
+    pub fn was(&self) -> &[T] {
+        &self.before[self.from..self.to]
+    }
+
     /// Whether `first` stands at the room's front, and everything else is as it was.
     pub fn holds(&self, first: &[T]) -> bool {
         let (all, end) = (std::hint::black_box(&self.all), self.from + first.len());

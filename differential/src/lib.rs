@@ -1,4 +1,4 @@
-//! What the programs of this folder share: cases and their lines, the readable forms, the generators, what an error has found.
+//! What the programs of this folder share: cases and their lines, the readable forms, the generators, the lexical rules, what an error has found.
 
 pub mod case;
 pub mod found;
@@ -6,7 +6,9 @@ pub mod generate;
 pub mod lists;
 pub mod replay;
 pub mod rng;
+pub mod rules;
 pub mod text;
+pub mod texts;
 
 use answer::{Bounds, End, Ev, Panic, LOOKUPS};
 use case::Case;

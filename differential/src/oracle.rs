@@ -5,6 +5,7 @@ use differential::case::{answer_line, bytes, list, Case};
 use differential::{replay, text};
 use std::io::{BufRead, Write};
 
+mod lexed;
 mod record;
 mod replays;
 mod same;
@@ -22,6 +23,10 @@ fn main() {
             (Ok(count), Ok(seed)) => same::run(count, seed),
             _ => usage(),
         },
+        ["lexed", count, seed] => match (count.parse(), seed.parse()) {
+            (Ok(count), Ok(seed)) => lexed::run(count, seed),
+            _ => usage(),
+        },
         ["replay", folder] => replays::run(std::path::Path::new(folder)),
         ["record", folder] => record::run(std::path::Path::new(folder), answer_line_of),
         ["search", ref words @ ..] => search::run(words) || usage(),
@@ -34,6 +39,7 @@ fn usage() -> bool {
     eprintln!("usage: oracle < LINES");
     eprintln!("       oracle test");
     eprintln!("       oracle same COUNT SEED");
+    eprintln!("       oracle lexed COUNT SEED");
     eprintln!("       oracle record FOLDER");
     eprintln!("       oracle replay FOLDER");
     eprintln!("       oracle search short all|rest|reduced|expressions|types LENGTH [ENTRY]");

@@ -26,6 +26,18 @@ extern "C" {
         answer: *mut u64,
         answer_length: usize,
     ) -> u32;
+    fn oq3_lex(
+        text: *const u8,
+        text_length: usize,
+        kinds: *mut u16,
+        kinds_length: usize,
+        joints: *mut u64,
+        joints_length: usize,
+        tokens: *mut u32,
+        tokens_length: usize,
+        answer: *mut u64,
+        answer_length: usize,
+    ) -> u32;
     fn oq3_read_file(file: *const u8, file_length: usize, answer: *mut u64, answer_length: usize) -> u32;
     fn oq3_read_step(file: *const u8, file_length: usize, answer: *mut u64, answer_length: usize) -> u32;
 }
@@ -48,6 +60,14 @@ pub fn parse(entry: u32, mode: u32, kinds: &[u16], joints: &[u64], room: &mut [u
     let (k, j, r, a) = (kinds.as_ptr(), joints.as_ptr(), room.as_mut_ptr(), answer.as_mut_ptr());
     // SAFETY: as in `check`.
     unsafe { oq3_parse(entry, mode, k, kinds.len(), j, joints.len(), r, room.len(), a, answer.len()) }
+}
+
+/// Lexing: its number. The first two words of `answer` are all tokens, trivia too, and the kinds; where it has fewer, 100 is said and nothing
+/// is done. A kind for each byte of the text, a joint word for each 64 of them begun and two words of `tokens` for each are always enough.
+pub fn lex(text: &[u8], kinds: &mut [u16], joints: &mut [u64], tokens: &mut [u32], answer: &mut [u64]) -> u32 {
+    let (k, j, t, a) = (kinds.as_mut_ptr(), joints.as_mut_ptr(), tokens.as_mut_ptr(), answer.as_mut_ptr());
+    // SAFETY: as in `check`.
+    unsafe { oq3_lex(text.as_ptr(), text.len(), k, kinds.len(), j, joints.len(), t, tokens.len(), a, answer.len()) }
 }
 
 /// A whole step file: its number. The first two words of `answer` are the place and the records; where it has fewer, 100 is said and

@@ -3,8 +3,8 @@
 use answer::{kinds, permitted, read_steps, Bounds, End, Entry, Ev, Run, Step, CRATE, LOOKUPS};
 use differential::case::Case;
 use differential::rng::Rng;
-use differential::text::{kind, tokens, tree};
-use differential::{found, generate, lists, replay};
+use differential::text::{kind, names, tokens, tree};
+use differential::{found, generate, lists, replay, texts};
 use std::panic::{catch_unwind, AssertUnwindSafe};
 
 use Entry::{Expr, Item, Source};
@@ -36,6 +36,11 @@ pub fn run() -> bool {
         ("the crate's 15,000,000 lookups", crate_limit),
         ("lists that process cannot take", bad_lists),
         ("seeds", seeds),
+        ("the second lexer's kinds, words and marks", lexed_kinds),
+        ("the lexical cases", lexed_cases),
+        ("the samples' tokens", lexed_samples),
+        ("programs that are written and read", lexed_programs),
+        ("long texts", lexed_long),
     ];
     let mut failed = 0;
     for (name, test) in tests {
@@ -473,4 +478,78 @@ fn seeds() {
     let cases = |seed| (0..10_000).map(move |case| Rng::of(seed, case).next());
     let all: std::collections::HashSet<u64> = (1..=3).flat_map(cases).collect();
     assert_eq!(all.len(), 30_000);
+}
+
+/// The second lexer's kinds are those of docs/KINDS.md that a text can have, and its words and marks those of the crate's tables.
+fn lexed_kinds() {
+    use oq3_parser::SyntaxKind;
+    let never = ["CHAR", "BYTE", "PRAGMA_KW"].map(kind);
+    let trivia = ["WHITESPACE", "COMMENT"].map(kind);
+    let can = |&n: &u16| (kinds()[n as usize].permitted && !never.contains(&n)) || trivia.contains(&n);
+    let all: Vec<(&str, u16)> = (0..kinds().len() as u16).filter(can).map(|n| (kinds()[n as usize].name, n)).collect();
+    assert_eq!(lexer::KINDS, all);
+    let first = |text: &[u8]| lexer::lex(text)[0];
+    for byte in 0..=255 {
+        if let Some(mark) = SyntaxKind::from_char(byte as char) {
+            assert_eq!(first(&[byte]), (mark as u16, 1));
+        }
+    }
+    let words = differential::rules::Rules::words();
+    assert_eq!(words.len(), 53);
+    for word in words {
+        let table = SyntaxKind::from_keyword(word).or(SyntaxKind::from_scalar_type(word)).expect("a word");
+        let must = if word == "pragma" { kind("PRAGMA") } else { table as u16 };
+        assert_eq!(first(word.as_bytes()), (must, word.len()));
+        assert_eq!(first(format!("{word}_").as_bytes()), (kind("IDENT"), word.len() + 1));
+        assert_eq!(first(format!("{word};").as_bytes()).0, must);
+    }
+}
+
+fn lexed_cases() {
+    for &(text, all, must) in texts::NAMED {
+        let said = lexer::said(text);
+        assert_eq!((said.all(), names(&said.kinds, |i| said.joint[i]).as_str()), (all, must), "{:?}", String::from_utf8_lossy(text));
+    }
+}
+
+/// The text of each sample has the tokens of its token text.
+fn lexed_samples() {
+    let samples = texts::samples();
+    assert!(samples.iter().any(|sample| sample.tokens.is_some()));
+    for sample in samples {
+        let said = lexer::said(&sample.text);
+        let differs = sample.tokens.and_then(|must| texts::sample_differs(&must, &said.kinds, |i| said.joint[i]));
+        assert_eq!(differs, None, "{}", sample.name);
+    }
+}
+
+/// Kinds that are written as text are read again.
+fn lexed_programs() {
+    for seed in 0..2_000 {
+        let mut rng = Rng::new(seed);
+        let list = generate::valid(Source, &mut rng);
+        let text = texts::written(&list, 2, &mut rng);
+        let must: Vec<u16> = list.iter().map(|token| token.0).collect();
+        let said = lexer::said(&text);
+        assert_eq!(said.kinds, must, "{:?}", String::from_utf8_lossy(&text));
+        // what is glued touches; no comment may come of two marks
+        let mark = |i: usize| kinds()[must[i] as usize].why.starts_with("the character");
+        for i in (1..must.len()).filter(|&i| mark(i - 1) && mark(i) && must[i - 1] != lexer::SLASH) {
+            assert_eq!(said.joint[i - 1], list[i - 1].1, "{:?}", String::from_utf8_lossy(&text));
+        }
+    }
+}
+
+/// The longest texts are read at once, whatever they repeat, and the whole call of the second lexer says and leaves what it must.
+fn lexed_long() {
+    for text in texts::long(lexer::MOST, &mut Rng::new(1)) {
+        let begin = std::time::Instant::now();
+        let said = lexer::said(&text);
+        assert!(begin.elapsed().as_millis() < 500, "{:?}", String::from_utf8_lossy(&text[..20]));
+        let (mut kinds, mut joints, mut tokens) =
+            (vec![7; said.kinds.len()], vec![u64::MAX; said.kinds.len() / 64 + 1], vec![7; 2 * text.len()]);
+        assert_eq!(lexer::call(&text, &mut kinds, &mut joints, &mut tokens, &mut [0; 2]), 0);
+        assert!(kinds == said.kinds && joints[..said.kinds.len().div_ceil(64)] == said.joints(u64::MAX));
+        assert!(tokens[..said.tokens.len()] == said.tokens && tokens[said.tokens.len()..].iter().all(|&word| word == 7));
+    }
 }
