@@ -5,20 +5,21 @@ use Prim.Native.Nat.{ℕ, _+_, _*_, _/_, _≤_, _<_}
 use native.Mathlib.Omega.{arith}
 use lib.Dec.{eqb, leb}
 use borrow.Author.Tests.{leb-true, le-leb, lt-leb, eq-eqb}
+use Rattle.kinds.specs.Kinds.{WHITESPACE, COMMENT}
 use Rattle.kinds.specs.Membership.{both, oneOf}
 use Rattle.laws.proofs.Tests.{apart}
 use Rattle.lex.specs.Lexing.{isTrivia, fit}
 
 -- a kind is trivia where it is the first or the second
-pub first-trivia : (k : ℕ) → k ≡ 117 → eqb k 117 ≡ isTrivia k
+pub first-trivia : (k : ℕ) → k ≡ WHITESPACE → eqb k WHITESPACE ≡ isTrivia k
 unfolding oneOf
-first-trivia k e = rw (eq-eqb k 117 e)
+first-trivia k e = rw (eq-eqb k WHITESPACE e)
 
-pub second-trivia : (k : ℕ) → eqb k 117 ≡ false → eqb k 118 ≡ isTrivia k
+pub second-trivia : (k : ℕ) → eqb k WHITESPACE ≡ false → eqb k COMMENT ≡ isTrivia k
 unfolding oneOf
-second-trivia k e = by (eqb k 118) refl
+second-trivia k e = by (eqb k COMMENT) refl
   where
-    by : (x : Bool) → eqb k 118 ≡ x → eqb k 118 ≡ cond (eqb k 117) true (cond (eqb k 118) true false)
+    by : (x : Bool) → eqb k COMMENT ≡ x → eqb k COMMENT ≡ cond (eqb k WHITESPACE) true (cond (eqb k COMMENT) true false)
     by true t = rw (e, t)
     by false t = rw (e, t)
 

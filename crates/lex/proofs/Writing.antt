@@ -6,6 +6,7 @@ use Prim.Native.Nat.{ℕ, zero, suc, _+_, _-_, _*_, _/_, _≤_, _<_}
 use native.Mathlib.Numerals.{add-one}
 use native.Mathlib.Omega.{arith}
 use lib.ListN.{length, drop, set, length-drop, drop-of-length-le}
+use Rattle.kinds.specs.Kinds.{WHITESPACE}
 use Rattle.kinds.specs.Membership.{oneOf}
 use Rattle.lexical.specs.Lexed.{Token, nothing, token, coded, longest, tokens, lexed, words}
 use Rattle.lexical.specs.Rules.{rules}
@@ -115,7 +116,7 @@ bits-waiting : (x : Bool) (m : ℕ) (ts : List Token) (joints : List ℕ) → pu
 bits-waiting true m ts joints = refl
 bits-waiting false m ts joints = let e : m ≡ m + 1 - 1 = omega arith in ap (λ (j : ℕ). putBits j (touched ts ∷ jointsIn ts) joints) e
 
-bits-ended : (waits : Bool) (m : ℕ) (joints : List ℕ) → pending waits m [] joints ≡ cond waits (putBit joints (m - 1) (not (isTrivia 117))) joints
+bits-ended : (waits : Bool) (m : ℕ) (joints : List ℕ) → pending waits m [] joints ≡ cond waits (putBit joints (m - 1) (not (isTrivia WHITESPACE))) joints
 unfolding putBits jointsIn oneOf
 bits-ended true m joints = refl
 bits-ended false m joints = refl
@@ -183,7 +184,7 @@ module _ {l : Lent} {kinds joints tokens : List ℕ} {i n m : ℕ} {waits : Bool
         some = waiting (isTrivia k);
       }
 
-pub finish : {l : Lent} {kinds joints tokens kinds' joints' : List ℕ} {i n m m' : ℕ} {waits : Bool} → Writing l kinds joints tokens i n m waits → length (l .text) ≤ i → m' ≡ cond (isTrivia 117) m (m + 1) → kinds' ≡ cond (isTrivia 117) kinds (set kinds m 117) → joints' ≡ cond waits (putBit joints (m - 1) (not (isTrivia 117))) joints → writes (lexed rules (l .text)) l ≡ ends (says 0 n m') kinds' joints' tokens
+pub finish : {l : Lent} {kinds joints tokens kinds' joints' : List ℕ} {i n m m' : ℕ} {waits : Bool} → Writing l kinds joints tokens i n m waits → length (l .text) ≤ i → m' ≡ cond (isTrivia WHITESPACE) m (m + 1) → kinds' ≡ cond (isTrivia WHITESPACE) kinds (set kinds m WHITESPACE) → joints' ≡ cond waits (putBit joints (m - 1) (not (isTrivia WHITESPACE))) joints → writes (lexed rules (l .text)) l ≡ ends (says 0 n m') kinds' joints' tokens
 unfolding oneOf kindsIn words
 finish {l} {kinds} {joints} {tokens} {kinds'} {joints'} {i} {n} {m} {m'} {waits} h over em ek ej =
     let none : from (l .text) i ≡ [] = none-left (l .text) i over in

@@ -57,7 +57,7 @@ abbrev stopped : ℕ → List ℕ → Bool
 stopped i row = pick (ltb i last-row) true (every (λ c. eqb (entry row c) 0) class-list)
 
 sound : ℕ → List ℕ → Bool
-sound i row = pick (eqb (length row) width) (pick (leads row) (pick (told i row) (stopped i row) false) false) false
+sound i row = pick (leads row) (pick (told i row) (stopped i row) false) false
 
 rows-sound : T (every-row sound 0 next-rows)
 unfolding sound next-rows class-list
@@ -86,7 +86,6 @@ unfolding row-of
 sound-at s h = rw zero-add at (every-row-at sound 0 next-rows rows-sound (s / width) (omega (arith, row-count, h)))
 
 record Parts (i : ℕ) (row : List ℕ) : Type 0 where
-  wide : T (eqb (length row) width)
   on : T (leads row)
   kinds : T (told i row)
   ends : T (stopped i row)
@@ -94,10 +93,9 @@ record Parts (i : ℕ) (row : List ℕ) : Type 0 where
 parts : (i : ℕ) (row : List ℕ) → T (sound i row) → Parts i row
 unfolding sound
 parts i row t =
-    let a : T (eqb (length row) width) × T (pick (leads row) (pick (told i row) (stopped i row) false) false) = both (eqb (length row) width) (pick (leads row) (pick (told i row) (stopped i row) false) false) t in
-    let b : T (leads row) × T (pick (told i row) (stopped i row) false) = both (leads row) (pick (told i row) (stopped i row) false) (a .1) in
-    let c : T (told i row) × T (stopped i row) = both (told i row) (stopped i row) (b .1) in
-    record { wide = a .0; on = b .0; kinds = c .0; ends = c .1 }
+    let a : T (leads row) × T (pick (told i row) (stopped i row) false) = both (leads row) (pick (told i row) (stopped i row) false) t in
+    let b : T (told i row) × T (stopped i row) = both (told i row) (stopped i row) (a .1) in
+    record { on = a .0; kinds = b .0; ends = b .1 }
 
 pub next-state : {s b : ℕ} → State s → b < 256 → State (next s b)
 unfolding next
