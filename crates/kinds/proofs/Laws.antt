@@ -61,7 +61,7 @@ agreed (suc n) ws f t k h = by (eqb k n) refl (agreed n ws f (both-parts (same (
     by true e before = rw (eqb-true k n e) (same-eq _ _ (both-parts (same (bit ws n) (f n)) (agree n ws f) t .0))
     by false e before = before (omega (arith, eqb-false k n e))
 
-unlisted : (n : ℕ) (ks : List ℕ) → T (below n ks) → (k : ℕ) → n ≤ k → oneOf ks k ≡ false
+pub unlisted : (n : ℕ) (ks : List ℕ) → T (below n ks) → (k : ℕ) → n ≤ k → oneOf ks k ≡ false
 unfolding below oneOf
 unlisted n [] t k h = refl
 unlisted n (x ∷ ks) t k h =

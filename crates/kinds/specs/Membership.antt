@@ -1,7 +1,7 @@
 -- When a set has a kind. Assumes nothing: these are definitions.
 use mathlib.Core.List.{List, [], _∷_}
 use mathlib.Core.Bool.{Bool, true, false, cond}
-use Prim.Native.Nat.{ℕ, _/_, _%_, _^_}
+use Prim.Native.Nat.{ℕ, zero, suc, _+_, _/_, _%_, _^_}
 use lib.Dec.{eqb}
 use lib.ListN.{getD}
 use Rattle.kinds.specs.declared.token_set.TokenSet.{TokenSet}
@@ -25,3 +25,19 @@ oneOf (x ∷ xs) k = cond (eqb k x) true (oneOf xs k)
 -- the kinds of one or the other
 abbrev pub either : (ℕ → Bool) → (ℕ → Bool) → ℕ → Bool
 either f g k = cond (f k) true (g k)
+
+-- ---- how many kinds there are
+
+-- a listing with each kind once: where one is named again, the last name stays
+unfoldable pub once : List ℕ → List ℕ
+once [] = []
+once (x ∷ xs) = cond (oneOf xs x) (once xs) (x ∷ once xs)
+
+-- how many of the numbers below n a test holds of
+unfoldable pub count : ℕ → (ℕ → Bool) → ℕ
+count zero f = 0
+count (suc n) f = cond (f n) 1 0 + count n f
+
+-- the number of kinds that a test holds of: a kind is a number below 65,536
+abbrev pub number : (ℕ → Bool) → ℕ
+number = count 65536

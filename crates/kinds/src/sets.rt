@@ -1,8 +1,10 @@
 // The fixed sets: the constants of type TokenSet in the grammar's files, the empty set, the sets behind the tests of
 // syntax_kind.rt, and the kinds that a function lists in a test of its own. Written by tools/lists; ./check compares it with the source.
+use crate::listings;
 use crate::token_set::TokenSet;
 ghost use mathlib.Core.Path.{_≡_};
-ghost use Rattle.kinds.specs.Membership.{held, oneOf};
+ghost use lib.ListN.{length};
+ghost use Rattle.kinds.specs.Membership.{held, once, oneOf};
 ghost use Rattle.kinds.specs.Sets.{kindsOf};
 
 // A fixed set's name. ExprFirst is LHS_FIRST too, which the crate gives that second name.
@@ -110,10 +112,52 @@ pub fn set_of(set: Fixed) -> TokenSet
 }
 
 impl Fixed {
-    // Whether the set has the kind.
+    // Whether the set has the kind. The set that is asked at each operand is told from the others here: only so is the code that asks it compiled
+    // into its callers (docs/SPEED.md).
     pub fn has(self, kind: u16) -> bool
         ensures { λ r. ⌜ r ≡ oneOf (kindsOf self) kind ⌝ }
     {
-        set_of(self).contains(kind)
+        match self {
+            Fixed::PrefixOps => listings::in_prefix_ops(kind),
+            _ => self.listed(kind),
+        }
+    }
+
+    // Whether the listing of the set has the kind.
+    pub fn listed(self, kind: u16) -> bool
+        ensures { λ r. ⌜ r ≡ oneOf (kindsOf self) kind ⌝ }
+    {
+        match self {
+            Fixed::Empty => false,
+            Fixed::PathFirst => listings::in_path_first(kind),
+            Fixed::LiteralFirst => listings::in_literal_first(kind),
+            Fixed::TimingLiteralFirst => listings::in_timing_literal_first(kind),
+            Fixed::AtomExprFirst => listings::in_atom_expr_first(kind),
+            Fixed::ExprRecoverySet => listings::in_expr_recovery_set(kind),
+            Fixed::ExprFirst => listings::in_expr_first(kind),
+            Fixed::PatternFirst => listings::in_pattern_first(kind),
+            Fixed::TypeFirst => listings::in_type_first(kind),
+            Fixed::ParamFirst => listings::in_param_first(kind),
+            Fixed::ItemRecoverySet => listings::in_item_recovery_set(kind),
+            Fixed::ScalarTypes => listings::in_scalar_types(kind),
+            Fixed::ClassicalTypes => listings::in_classical_types(kind),
+            Fixed::QuantumTypes => listings::in_quantum_types(kind),
+            Fixed::Types => listings::in_types(kind),
+            Fixed::Permitted => listings::in_permitted(kind),
+            Fixed::QubitFirst => listings::in_qubit_first(kind),
+            Fixed::PrefixOps => listings::in_prefix_ops(kind),
+            Fixed::CastNext => listings::in_cast_next(kind),
+            Fixed::Assignable => listings::in_assignable(kind),
+            Fixed::Unindexed => listings::in_unindexed(kind),
+            Fixed::ArrayBases => listings::in_array_bases(kind),
+            Fixed::NoIntegers => listings::in_no_integers(kind),
+        }
+    }
+
+    // How many kinds the set has: the ones of its words, which are as many as the kinds listed.
+    pub fn count(self) -> u32
+        ensures { λ r. ⌜ r ≡ length (once (kindsOf self)) ⌝ }
+    {
+        set_of(self).count()
     }
 }

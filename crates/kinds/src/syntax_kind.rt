@@ -1,7 +1,6 @@
 // What the crate tells of a kind by a test: the tests of src/syntax_kind/syntax_kind_enum.rs and of src/grammar.rs that the
 // grammar calls, and whether a kind may stand in a token list.
 use crate::sets::Fixed;
-use crate::sets::set_of;
 ghost use mathlib.Core.Path.{_≡_};
 ghost use Rattle.kinds.specs.Membership.{oneOf};
 ghost use Rattle.kinds.specs.Sets.{SCALAR-TYPES, CLASSICAL-TYPES, QUANTUM-TYPES, TYPES, PERMITTED};
@@ -9,31 +8,30 @@ ghost use Rattle.kinds.specs.Sets.{SCALAR-TYPES, CLASSICAL-TYPES, QUANTU
 pub fn is_scalar_type(kind: u16) -> bool
     ensures { λ r. ⌜ r ≡ oneOf SCALAR-TYPES kind ⌝ }
 {
-    Fixed::ScalarTypes.has(kind)
+    Fixed::ScalarTypes.listed(kind)
 }
 
 pub fn is_classical_type(kind: u16) -> bool
     ensures { λ r. ⌜ r ≡ oneOf CLASSICAL-TYPES kind ⌝ }
 {
-    Fixed::ClassicalTypes.has(kind)
+    Fixed::ClassicalTypes.listed(kind)
 }
 
 pub fn is_quantum_type(kind: u16) -> bool
     ensures { λ r. ⌜ r ≡ oneOf QUANTUM-TYPES kind ⌝ }
 {
-    Fixed::QuantumTypes.has(kind)
+    Fixed::QuantumTypes.listed(kind)
 }
 
 pub fn is_type(kind: u16) -> bool
     ensures { λ r. ⌜ r ≡ oneOf TYPES kind ⌝ }
 {
-    Fixed::Types.has(kind)
+    Fixed::Types.listed(kind)
 }
 
-// Whether lexing can push the kind into an Input: refusal 4 is given for any other. It is asked of token after token, so its word is read
-// by index: a comparison would be foreseen wrong too often (docs/SPEED.md).
+// Whether lexing can push the kind into an Input: refusal 4 is given for any other.
 pub fn permitted(kind: u16) -> bool
     ensures { λ r. ⌜ r ≡ oneOf PERMITTED kind ⌝ }
 {
-    set_of(Fixed::Permitted).contains_by_index(kind)
+    Fixed::Permitted.listed(kind)
 }

@@ -4,7 +4,7 @@ ghost use mathlib.Core.Path.{_≡_};
 ghost use mathlib.Core.Bool.{true};
 ghost use Prim.Native.Nat.{_/_, _%_, _^_};
 ghost use lib.Dec.{eqb};
-ghost use Rattle.kinds.specs.Membership.{held, either};
+ghost use Rattle.kinds.specs.Membership.{held, either, number};
 
 // A set of kinds, a bit for each: kind k is bit k % 64 of word k / 64. A kind beyond the words is in no set.
 pub struct TokenSet {
@@ -43,16 +43,15 @@ impl TokenSet {
         false
     }
 
-    // `contains`, with the word read by index.
-    pub fn contains_by_index(self, kind: u16) -> bool
-        ensures { λ r. ⌜ r ≡ held self kind ⌝ }
+    // How many kinds the set has: the ones of its words.
+    pub fn count(self) -> u32
+        ensures { λ r. ⌜ r ≡ number (held self) ⌝ }
     {
-        let i = (kind / 64) as usize;
         let words = self.words;
-        if i < 4 {
-            return has_bit(words[i], kind);
-        }
-        false
+        u64::count_ones(words[0])
+            + u64::count_ones(words[1])
+            + u64::count_ones(words[2])
+            + u64::count_ones(words[3])
     }
 }
 

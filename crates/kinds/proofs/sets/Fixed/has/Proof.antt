@@ -1,19 +1,22 @@
--- `Fixed::has` meets its contract. Assumes nothing.
+-- `Fixed::has` meets its contract: either way it says what the set's listing says. Assumes nothing.
 use borrow.Author.Needs.{needs}
-use mathlib.Core.Bool.{Bool}
-use mathlib.Core.Path.{_∙_, ap}
-use Prim.Native.Nat.{ℕ}
 use Rattle.kinds.proofs.sets.Fixed.has.Statement.{statement}
 use Rattle.kinds.proofs.sets.Fixed.has.Tie as tie
 
-set-of-requires : tie.Need-set-of-requires
-set-of-requires c κs = search needs
+enum-told : tie.Need-enum-told
+enum-told c = search needs
 
-contains-requires : tie.Need-contains-requires
-contains-requires c κs = search needs
+in-prefix-ops-requires : tie.Need-in-prefix-ops-requires
+in-prefix-ops-requires c κs = search needs
+
+listed-requires : tie.Need-listed-requires
+listed-requires c κs = search needs
 
 returns : tie.Need-returns
-returns c = c .contains .ensures ∙ ap (λ (f : ℕ → Bool). f (c .before .before .args .kind)) (c .before .set-of .ensures)
+returns c = rw (c .before .enum-told .given .1) (c .in-prefix-ops .ensures)
+
+returns-2 : tie.Need-returns-2
+returns-2 c = c .listed .ensures
 
 pub has-spec : {M : Type 1} → statement M
-has-spec = tie.close (tie.spec set-of-requires contains-requires returns)
+has-spec = tie.close (tie.spec enum-told in-prefix-ops-requires listed-requires returns returns-2)
