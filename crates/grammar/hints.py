@@ -35,8 +35,8 @@ TOLD = [
     ("≡ sees ", "see _ _ _ _"),
     ("≡ goes ", "go _ _ _ _"),
     ("≡ stopped ", "ask _ _ _"),
-    ("≡ acts.endsHere ", "list-end _ _ _ _"),
-    ("≡ acts.goesHere ", "list-go _ _ _ _"),
+    ("≡ acts.ends_here ", "list-end _ _ _ _"),
+    ("≡ acts.goes_here ", "list-go _ _ _ _"),
     ("(acts.expected ", "past _ _ _ _"),
     ("(acts.completed ", "passed _ _ _ _"),
 ]

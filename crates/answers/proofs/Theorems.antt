@@ -16,8 +16,8 @@ use Rattle.laws.proofs.Tests.{by-test, apart}
 use Rattle.parse.specs.declared.Entry.{Entry}
 use Rattle.parse.specs.declared.Entry.TheVariants.{SourceFile, Item, Expression}
 use Rattle.parse.specs.declared.Answer.{Answer}
-use Rattle.parse.specs.Parse.{Lent, Outcome, ends, refuses, badMode, tooMany, fewJoints, firstFault, notPermitted, actsOf, ran, leaves, number_of, settled, parsed}
-use Rattle.answers.specs.Refusals.{reaches, reason, conditions, condition, first, place_of, leftBy, handedOut, row}
+use Rattle.parse.specs.Parse.{Lent, Outcome, ends, refuses, bad_mode, too_many, few_joints, first_fault, not_permitted, acts_of, ran, leaves, number_of, settled, parsed}
+use Rattle.answers.specs.Refusals.{reaches, reason, conditions, condition, first, place_of, left_by, handed_out, row}
 use Rattle.answers.proofs.Reached.{met-run, met-reason, Reason, Reason.none, Reason.room, Reason.deep, Reason.lookups, Reason.panic}
 
 -- Two answers that meet the contract of `parse` are equal, with the rooms that they leave.
@@ -27,7 +27,7 @@ parse-unique l a b r t p q = let e : ends a r ≡ ends b t = sym p ∙ q in (ap 
 -- the run's number and place, and what it meets
 module _ (l : Lent) where
   pub meeting : ◌≡◌ {A = ℕ × ℕ} ((ran l).p.refused, (ran l).p.pos) (reaches l)
-  meeting = met-run (env l.kinds l.joints) (actsOf l.entry l.mode) (view new l.room) refl
+  meeting = met-run (env l.kinds l.joints) (acts_of l.entry l.mode) (view new l.room) refl
 
   pub is-reason : number_of l.entry (length l.kinds) (ran l).p ≡ reason l
   is-reason = ap (λ (x : ℕ × ℕ). cond (eqb x.0 0) (leaves l.entry (length l.kinds) x.1) x.0) meeting
@@ -41,12 +41,12 @@ module _ (l : Lent) where
   has-reason =
       by-test Reason (eqb (reaches l).0 0) (leaves l.entry (length l.kinds) (reaches l).1) (reaches l).0
       (λ q. left-reason l.entry (length l.kinds) (reaches l).1)
-      (λ q. met-reason (env l.kinds l.joints) (actsOf l.entry l.mode) (view new l.room) refl)
+      (λ q. met-reason (env l.kinds l.joints) (acts_of l.entry l.mode) (view new l.room) refl)
 
   -- Demand 1: a parse answers as the row of the first condition that holds, or hands out its list.
   pub parsed-row : parsed l ≡ row (first (conditions l) 0) l
   unfolding parsed settled
-  parsed-row = by (badMode l) (tooMany l) (fewJoints l) (notPermitted l)
+  parsed-row = by (bad_mode l) (too_many l) (few_joints l) (not_permitted l)
     where
       ending : (n : ℕ) → Reason n → number_of l.entry (length l.kinds) (ran l).p ≡ n
           → settled n (length l.room) (ran l) ≡ row (first (false ∷ false ∷ false ∷ false ∷ false ∷ eqb n 5 ∷ eqb n 6 ∷ eqb n 7 ∷ eqb n 8 ∷ []) 0) l
@@ -59,7 +59,7 @@ module _ (l : Lent) where
       last : Outcome
       last = settled (number_of l.entry (length l.kinds) (ran l).p) (length l.room) (ran l)
 
-      by : (a b c d : Bool) → cond a (ends (refuses 1 0) l.room) (cond b (ends (refuses 2 0) l.room) (cond c (ends (refuses 3 0) l.room) (cond d (ends (refuses 4 (firstFault l.kinds)) l.room) last)))
+      by : (a b c d : Bool) → cond a (ends (refuses 1 0) l.room) (cond b (ends (refuses 2 0) l.room) (cond c (ends (refuses 3 0) l.room) (cond d (ends (refuses 4 (first_fault l.kinds)) l.room) last)))
           ≡ row (first (false ∷ a ∷ b ∷ c ∷ d ∷ eqb (reason l) 5 ∷ eqb (reason l) 6 ∷ eqb (reason l) 7 ∷ eqb (reason l) 8 ∷ []) 0) l
       by true b c d = refl
       by false true c d = refl
@@ -109,7 +109,7 @@ module _ (l : Lent) where
   row-code : (n : ℕ) → (row n l).answer.code ≡ n
   row-code n = by (eqb n 0) refl
     where
-      by : (b : Bool) → eqb n 0 ≡ b → (cond b (handedOut l) (ends (refuses n (place_of n l)) (leftBy n l))).answer.code ≡ n
+      by : (b : Bool) → eqb n 0 ≡ b → (cond b (handed_out l) (ends (refuses n (place_of n l)) (left_by n l))).answer.code ≡ n
       by true q = sym (eqb-true n 0 q)
       by false q = refl
 
@@ -145,33 +145,33 @@ module _ (l : Lent) where
 
   -- A done parse hands out its run's list; a refused one has its number's place, no events and no lookups, and leaves the room that its
   -- number leaves.
-  pub hands_out : (parsed l).answer.code ≡ 0 → parsed l ≡ handedOut l
+  pub hands_out : (parsed l).answer.code ≡ 0 → parsed l ≡ handed_out l
   hands_out e = parsed-row l ∙ ap (λ (n : ℕ). row n l) (sym code-first ∙ e)
 
-  pub refused-row : (n : ℕ) → (n ≡ 0 → ⊥) → (parsed l).answer.code ≡ n → parsed l ≡ ends (refuses n (place_of n l)) (leftBy n l)
+  pub refused-row : (n : ℕ) → (n ≡ 0 → ⊥) → (parsed l).answer.code ≡ n → parsed l ≡ ends (refuses n (place_of n l)) (left_by n l)
   refused-row n z e = parsed-row l ∙ ap (λ (m : ℕ). row m l) (sym code-first ∙ e) ∙ rw (ne_eqb n 0 z)
 
 -- The place of a 4 is the first token whose kind is not permitted.
-pub fault-first : (ks : List ℕ) (i : ℕ) → i < firstFault ks → one_of PERMITTED (get_or ks i 0) ≡ true
-unfolding firstFault
+pub fault-first : (ks : List ℕ) (i : ℕ) → i < first_fault ks → one_of PERMITTED (get_or ks i 0) ≡ true
+unfolding first_fault
 fault-first [] i h = absurd (omega arith)
 fault-first (k ∷ ks) zero h = by (one_of PERMITTED k) refl h
   where
-    by : (b : Bool) → one_of PERMITTED k ≡ b → 0 < cond b (suc (firstFault ks)) 0 → one_of PERMITTED k ≡ true
+    by : (b : Bool) → one_of PERMITTED k ≡ b → 0 < cond b (suc (first_fault ks)) 0 → one_of PERMITTED k ≡ true
     by true q h = q
     by false q h = absurd (omega arith)
 fault-first (k ∷ ks) (suc i) h = fault-first ks i (by (one_of PERMITTED k) h)
   where
-    by : (b : Bool) → suc i < cond b (suc (firstFault ks)) 0 → i < firstFault ks
+    by : (b : Bool) → suc i < cond b (suc (first_fault ks)) 0 → i < first_fault ks
     by true h = omega arith
     by false h = absurd (omega arith)
 
-pub fault-there : (ks : List ℕ) → firstFault ks < length ks → one_of PERMITTED (get_or ks (firstFault ks) 0) ≡ false
-unfolding firstFault
+pub fault-there : (ks : List ℕ) → first_fault ks < length ks → one_of PERMITTED (get_or ks (first_fault ks) 0) ≡ false
+unfolding first_fault
 fault-there [] h = absurd (omega arith)
 fault-there (k ∷ ks) h = by (one_of PERMITTED k) refl h (fault-there ks)
   where
-    by : (b : Bool) → one_of PERMITTED k ≡ b → cond b (suc (firstFault ks)) 0 < suc (length ks) → (firstFault ks < length ks → one_of PERMITTED (get_or ks (firstFault ks) 0) ≡ false)
-        → one_of PERMITTED (get_or (k ∷ ks) (cond b (suc (firstFault ks)) 0) 0) ≡ false
+    by : (b : Bool) → one_of PERMITTED k ≡ b → cond b (suc (first_fault ks)) 0 < suc (length ks) → (first_fault ks < length ks → one_of PERMITTED (get_or ks (first_fault ks) 0) ≡ false)
+        → one_of PERMITTED (get_or (k ∷ ks) (cond b (suc (first_fault ks)) 0) 0) ≡ false
     by true q h r = r (omega arith)
     by false q h r = q

@@ -19,28 +19,28 @@ use Rattle.grammar.specs.Params as P
 use Rattle.grammar.specs.Items as I
 use Rattle.grammar.specs.Entry.{counted, later}
 
-one_down : (ops : Table) (n : ℕ) → (n ≡ 0 → ⊥) → counted ops n ≡ record { exprBp = E.exprBp (counted ops (n - 1)) (later (counted ops (n - 1))) ops; stmt = E.stmt (counted ops (n - 1)) (later (counted ops (n - 1))); typeSpec = E.typeSpec (counted ops (n - 1)); complexTypeSpec = E.complexTypeSpec (counted ops (n - 1)); ifStmt = I.ifStmt (counted ops (n - 1)); expressionList = P.expressionList (counted ops (n - 1)) }
+one_down : (ops : Table) (n : ℕ) → (n ≡ 0 → ⊥) → counted ops n ≡ record { expr_bp = E.expr_bp (counted ops (n - 1)) (later (counted ops (n - 1))) ops; stmt = E.stmt (counted ops (n - 1)) (later (counted ops (n - 1))); type_spec = E.type_spec (counted ops (n - 1)); complex_type_spec = E.complex_type_spec (counted ops (n - 1)); if_stmt = I.if_stmt (counted ops (n - 1)); expression_list = P.expression_list (counted ops (n - 1)) }
 unfolding counted
 one_down ops zero h = absurd (h refl)
 one_down ops (suc n) h = rw (sub-one (suc n))
 
-pub exprBp-deeper : (e : Env) (ops : Table) (n : ℕ) (m : Mark) (prefer : Bool) (bp : ℕ) (s : St) {a : Got} {r : St} → (n ≡ 0 → ⊥) → Does e (E.exprBp (counted ops (n - 1)) (later (counted ops (n - 1))) ops m prefer bp) s a r → Does e ((counted ops n).exprBp m prefer bp) s a r
-exprBp-deeper e ops n m prefer bp s h d = rw (one_down ops n h) d
+pub expr_bp-deeper : (e : Env) (ops : Table) (n : ℕ) (m : Mark) (prefer : Bool) (bp : ℕ) (s : St) {a : Got} {r : St} → (n ≡ 0 → ⊥) → Does e (E.expr_bp (counted ops (n - 1)) (later (counted ops (n - 1))) ops m prefer bp) s a r → Does e ((counted ops n).expr_bp m prefer bp) s a r
+expr_bp-deeper e ops n m prefer bp s h d = rw (one_down ops n h) d
 
 pub stmt-deeper : (e : Env) (ops : Table) (n : ℕ) (s : St) {r : St} → (n ≡ 0 → ⊥) → Does e (E.stmt (counted ops (n - 1)) (later (counted ops (n - 1)))) s tt r → Does e (counted ops n).stmt s tt r
 stmt-deeper e ops n s h d = rw (one_down ops n h) d
 
-pub typeSpec-deeper : (e : Env) (ops : Table) (n : ℕ) (s : St) {r : St} → (n ≡ 0 → ⊥) → Does e (E.typeSpec (counted ops (n - 1))) s tt r → Does e (counted ops n).typeSpec s tt r
-typeSpec-deeper e ops n s h d = rw (one_down ops n h) d
+pub type_spec-deeper : (e : Env) (ops : Table) (n : ℕ) (s : St) {r : St} → (n ≡ 0 → ⊥) → Does e (E.type_spec (counted ops (n - 1))) s tt r → Does e (counted ops n).type_spec s tt r
+type_spec-deeper e ops n s h d = rw (one_down ops n h) d
 
-pub complexTypeSpec-deeper : (e : Env) (ops : Table) (n : ℕ) (s : St) {r : St} → (n ≡ 0 → ⊥) → Does e (E.complexTypeSpec (counted ops (n - 1))) s tt r → Does e (counted ops n).complexTypeSpec s tt r
-complexTypeSpec-deeper e ops n s h d = rw (one_down ops n h) d
+pub complex_type_spec-deeper : (e : Env) (ops : Table) (n : ℕ) (s : St) {r : St} → (n ≡ 0 → ⊥) → Does e (E.complex_type_spec (counted ops (n - 1))) s tt r → Does e (counted ops n).complex_type_spec s tt r
+complex_type_spec-deeper e ops n s h d = rw (one_down ops n h) d
 
-pub ifStmt-deeper : (e : Env) (ops : Table) (n m : ℕ) (s : St) {r : St} → (n ≡ 0 → ⊥) → Does e (I.ifStmt (counted ops (n - 1)) m) s tt r → Does e ((counted ops n).ifStmt m) s tt r
-ifStmt-deeper e ops n m s h d = rw (one_down ops n h) d
+pub if_stmt-deeper : (e : Env) (ops : Table) (n m : ℕ) (s : St) {r : St} → (n ≡ 0 → ⊥) → Does e (I.if_stmt (counted ops (n - 1)) m) s tt r → Does e ((counted ops n).if_stmt m) s tt r
+if_stmt-deeper e ops n m s h d = rw (one_down ops n h) d
 
-pub expressionList-deeper : (e : Env) (ops : Table) (n : ℕ) (s : St) {r : St} → (n ≡ 0 → ⊥) → Does e (P.expressionList (counted ops (n - 1))) s tt r → Does e (counted ops n).expressionList s tt r
-expressionList-deeper e ops n s h d = rw (one_down ops n h) d
+pub expression_list-deeper : (e : Env) (ops : Table) (n : ℕ) (s : St) {r : St} → (n ≡ 0 → ⊥) → Does e (P.expression_list (counted ops (n - 1))) s tt r → Does e (counted ops n).expression_list s tt r
+expression_list-deeper e ops n s h d = rw (one_down ops n h) d
 
 -- where n is no less than what was left, and something was
 pub falls-after : {A : Type 0} (e : Env) (m : Acts A) (s : St) (n : ℕ) {a : A} {r : St} → Spends m → 0 < n → left s.p ≤ n → Does e m s a r → left r.p < n

@@ -72,7 +72,7 @@ fn source_file_contents(
     left: u32,
 ) -> Parser
     requires { Fit p }
-    ensures { Does (env kinds.now joints.now) (I.sourceFileContents (entry.counted (table_of mode) left) false) (view p room.old) tt (view result room.new) }
+    ensures { Does (env kinds.now joints.now) (I.source_file_contents (entry.counted (table_of mode) left) false) (view p room.old) tt (view result room.new) }
 {
     let mut q = p;
     loop {
@@ -86,7 +86,7 @@ fn source_file_contents(
 // The source file: at most 64 counted calls are unfinished.
 pub fn source_file(kinds: &[u16], joints: &[u64], room: &mut [u32], p: Parser, mode: u8) -> Parser
     requires { Fit p }
-    ensures { Does (env kinds.now joints.now) (entry.sourceFile (table_of mode)) (view p room.old) tt (view result room.new) }
+    ensures { Does (env kinds.now joints.now) (entry.source_file (table_of mode)) (view p room.old) tt (view result room.new) }
 {
     let s = p.start(room);
     let p1 = s.p;
@@ -98,7 +98,7 @@ pub fn source_file(kinds: &[u16], joints: &[u64], room: &mut [u32], p: Parser, m
 // One item.
 pub fn item(kinds: &[u16], joints: &[u64], room: &mut [u32], p: Parser, mode: u8) -> Parser
     requires { Fit p }
-    ensures { Does (env kinds.now joints.now) (entry.oneItem (table_of mode)) (view p room.old) tt (view result room.new) }
+    ensures { Does (env kinds.now joints.now) (entry.one_item (table_of mode)) (view p room.old) tt (view result room.new) }
 {
     item_at(kinds, joints, room, p, mode, 64)
 }
@@ -106,7 +106,7 @@ pub fn item(kinds: &[u16], joints: &[u64], room: &mut [u32], p: Parser, mode: u8
 // One expression.
 pub fn expression(kinds: &[u16], joints: &[u64], room: &mut [u32], p: Parser, mode: u8) -> Parser
     requires { Fit p }
-    ensures { Does (env kinds.now joints.now) (entry.oneExpression (table_of mode)) (view p room.old) tt (view result room.new) }
+    ensures { Does (env kinds.now joints.now) (entry.one_expression (table_of mode)) (view p room.old) tt (view result room.new) }
 {
     let e = expr_bp(kinds, joints, room, p, mode, 64, Mark::Fresh, false, 1);
     e.p

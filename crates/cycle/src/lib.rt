@@ -65,7 +65,7 @@ fn sig(
 #[cycle(args_arr_atom_blk_body_bx_call_cast_cplx_ctl_dcal_decl_def_els_expr_bp_fors_gate_gdef_gph_ids_idx_ifs_io_lhs_list_meas_mods_more_opt_par_post_qarg_range_rest_ret_scal_set_sig_spec_stmt_sts_subs_sw_tup_width)]
 fn els(kinds: &[u16], joints: &[u64], room: &mut [u32], p: Parser, mode: u8, left: u32) -> Parser
     requires { Fit p }
-    ensures { Does (env kinds.now joints.now) (counted (table_of mode) left).expressionList (view p room.old) tt (view result room.new) }
+    ensures { Does (env kinds.now joints.now) (counted (table_of mode) left).expression_list (view p room.old) tt (view result room.new) }
 {
     if left == 0 {
         return p.stop(room, Stop::Deep);
@@ -86,7 +86,7 @@ fn list(
     flavor: DefFlavor,
 ) -> Parser
     requires { Fit p }
-    ensures { Does (env kinds.now joints.now) (P.paramListOpenqasm (counted (table_of mode) left) flavor) (view p room.old) tt (view result room.new) }
+    ensures { Does (env kinds.now joints.now) (P.param_list_openqasm (counted (table_of mode) left) flavor) (view p room.old) tt (view result room.new) }
 {
     let shape = params::shape_of(flavor);
     let how = shape.how;
@@ -133,7 +133,7 @@ fn par(
     m: u32,
 ) -> Told
     requires { Fit p }
-    ensures { Does (env kinds.now joints.now) (P.foundParam (counted (table_of mode) left) how m) (view p room.old) result.yes (view result.p room.new) }
+    ensures { Does (env kinds.now joints.now) (P.found_param (counted (table_of mode) left) how m) (view p room.old) result.yes (view result.p room.new) }
 {
     match how {
         How::Expr => {
@@ -186,7 +186,7 @@ fn qarg(
     m: u32,
 ) -> Told
     requires { Fit p }
-    ensures { Does (env kinds.now joints.now) (P.argGateCallQubit (counted (table_of mode) left) m) (view p room.old) result.yes (view result.p room.new) }
+    ensures { Does (env kinds.now joints.now) (P.arg_gate_call_qubit (counted (table_of mode) left) m) (view p room.old) result.yes (view result.p room.new) }
 {
     if p.at(kinds, joints, k::HARDWAREIDENT) {
         let p1 = p.bump(kinds, joints, room, k::HARDWAREIDENT);
@@ -216,7 +216,7 @@ fn qarg(
 #[cycle(args_arr_atom_blk_body_bx_call_cast_cplx_ctl_dcal_decl_def_els_expr_bp_fors_gate_gdef_gph_ids_idx_ifs_io_lhs_list_meas_mods_more_opt_par_post_qarg_range_rest_ret_scal_set_sig_spec_stmt_sts_subs_sw_tup_width)]
 fn atom(kinds: &[u16], joints: &[u64], room: &mut [u32], p: Parser, mode: u8, left: u32) -> Parsed
     requires { Fit p }
-    ensures { Does (env kinds.now joints.now) (atoms.atomExpr (counted (table_of mode) left)) (view p room.old) result.got (view result.p room.new) }
+    ensures { Does (env kinds.now joints.now) (atoms.atom_expr (counted (table_of mode) left)) (view p room.old) result.got (view result.p room.new) }
 {
     let g = atom::literal(kinds, joints, room, p);
     let p1 = g.p;
@@ -315,7 +315,7 @@ fn atom(kinds: &[u16], joints: &[u64], room: &mut [u32], p: Parser, mode: u8, le
 #[cycle(args_arr_atom_blk_body_bx_call_cast_cplx_ctl_dcal_decl_def_els_expr_bp_fors_gate_gdef_gph_ids_idx_ifs_io_lhs_list_meas_mods_more_opt_par_post_qarg_range_rest_ret_scal_set_sig_spec_stmt_sts_subs_sw_tup_width)]
 fn cast(kinds: &[u16], joints: &[u64], room: &mut [u32], p: Parser, mode: u8, left: u32) -> Done
     requires { Fit p }
-    ensures { Does (env kinds.now joints.now) (atoms.castExpr (counted (table_of mode) left)) (view p room.old) result.cm (view result.p room.new) }
+    ensures { Does (env kinds.now joints.now) (atoms.cast_expr (counted (table_of mode) left)) (view p room.old) result.cm (view result.p room.new) }
 {
     let s = p.start(room);
     let p1 = s.p;
@@ -331,7 +331,7 @@ fn cast(kinds: &[u16], joints: &[u64], room: &mut [u32], p: Parser, mode: u8, le
 #[cycle(args_arr_atom_blk_body_bx_call_cast_cplx_ctl_dcal_decl_def_els_expr_bp_fors_gate_gdef_gph_ids_idx_ifs_io_lhs_list_meas_mods_more_opt_par_post_qarg_range_rest_ret_scal_set_sig_spec_stmt_sts_subs_sw_tup_width)]
 fn gph(kinds: &[u16], joints: &[u64], room: &mut [u32], p: Parser, mode: u8, left: u32) -> Done
     requires { Fit p }
-    ensures { Does (env kinds.now joints.now) (atoms.gphaseCallExpr (counted (table_of mode) left)) (view p room.old) result.cm (view result.p room.new) }
+    ensures { Does (env kinds.now joints.now) (atoms.gphase_call_expr (counted (table_of mode) left)) (view p room.old) result.cm (view result.p room.new) }
 {
     let p1 = p.must(kinds, joints, room, k::GPHASE_KW);
     let s = p1.start(room);
@@ -346,7 +346,7 @@ fn gph(kinds: &[u16], joints: &[u64], room: &mut [u32], p: Parser, mode: u8, lef
 #[cycle(args_arr_atom_blk_body_bx_call_cast_cplx_ctl_dcal_decl_def_els_expr_bp_fors_gate_gdef_gph_ids_idx_ifs_io_lhs_list_meas_mods_more_opt_par_post_qarg_range_rest_ret_scal_set_sig_spec_stmt_sts_subs_sw_tup_width)]
 fn mods(kinds: &[u16], joints: &[u64], room: &mut [u32], p: Parser, mode: u8, left: u32) -> Done
     requires { Fit p }
-    ensures { Does (env kinds.now joints.now) (atoms.modifiedGateCallExpr (counted (table_of mode) left)) (view p room.old) result.cm (view result.p room.new) }
+    ensures { Does (env kinds.now joints.now) (atoms.modified_gate_call_expr (counted (table_of mode) left)) (view p room.old) result.cm (view result.p room.new) }
 {
     let s = p.start(room);
     let m = s.m;
@@ -445,7 +445,7 @@ fn ctl(
 #[cycle(args_arr_atom_blk_body_bx_call_cast_cplx_ctl_dcal_decl_def_els_expr_bp_fors_gate_gdef_gph_ids_idx_ifs_io_lhs_list_meas_mods_more_opt_par_post_qarg_range_rest_ret_scal_set_sig_spec_stmt_sts_subs_sw_tup_width)]
 fn gate(kinds: &[u16], joints: &[u64], room: &mut [u32], p: Parser, mode: u8, left: u32) -> Done
     requires { Fit p }
-    ensures { Does (env kinds.now joints.now) (atoms.gateCallExpr (counted (table_of mode) left)) (view p room.old) result.cm (view result.p room.new) }
+    ensures { Does (env kinds.now joints.now) (atoms.gate_call_expr (counted (table_of mode) left)) (view p room.old) result.cm (view result.p room.new) }
 {
     let s = p.start(room);
     let p1 = s.p;
@@ -480,7 +480,7 @@ fn gate(kinds: &[u16], joints: &[u64], room: &mut [u32], p: Parser, mode: u8, le
 #[cycle(args_arr_atom_blk_body_bx_call_cast_cplx_ctl_dcal_decl_def_els_expr_bp_fors_gate_gdef_gph_ids_idx_ifs_io_lhs_list_meas_mods_more_opt_par_post_qarg_range_rest_ret_scal_set_sig_spec_stmt_sts_subs_sw_tup_width)]
 fn meas(kinds: &[u16], joints: &[u64], room: &mut [u32], p: Parser, mode: u8, left: u32) -> Done
     requires { Fit p }
-    ensures { Does (env kinds.now joints.now) (atoms.measureExpression (counted (table_of mode) left)) (view p room.old) result.cm (view result.p room.new) }
+    ensures { Does (env kinds.now joints.now) (atoms.measure_expression (counted (table_of mode) left)) (view p room.old) result.cm (view result.p room.new) }
 {
     let s = p.start(room);
     let p1 = s.p;
@@ -502,7 +502,7 @@ fn meas(kinds: &[u16], joints: &[u64], room: &mut [u32], p: Parser, mode: u8, le
 #[cycle(args_arr_atom_blk_body_bx_call_cast_cplx_ctl_dcal_decl_def_els_expr_bp_fors_gate_gdef_gph_ids_idx_ifs_io_lhs_list_meas_mods_more_opt_par_post_qarg_range_rest_ret_scal_set_sig_spec_stmt_sts_subs_sw_tup_width)]
 fn tup(kinds: &[u16], joints: &[u64], room: &mut [u32], p: Parser, mode: u8, left: u32) -> Done
     requires { Fit p }
-    ensures { Does (env kinds.now joints.now) (atoms.tupleExpr (counted (table_of mode) left)) (view p room.old) result.cm (view result.p room.new) }
+    ensures { Does (env kinds.now joints.now) (atoms.tuple_expr (counted (table_of mode) left)) (view p room.old) result.cm (view result.p room.new) }
 {
     let p1 = p.must(kinds, joints, room, k::L_PAREN);
     let s = p1.start(room);
@@ -532,7 +532,7 @@ fn tup(kinds: &[u16], joints: &[u64], room: &mut [u32], p: Parser, mode: u8, lef
 #[cycle(args_arr_atom_blk_body_bx_call_cast_cplx_ctl_dcal_decl_def_els_expr_bp_fors_gate_gdef_gph_ids_idx_ifs_io_lhs_list_meas_mods_more_opt_par_post_qarg_range_rest_ret_scal_set_sig_spec_stmt_sts_subs_sw_tup_width)]
 fn arr(kinds: &[u16], joints: &[u64], room: &mut [u32], p: Parser, mode: u8, left: u32) -> Done
     requires { Fit p }
-    ensures { Does (env kinds.now joints.now) (atoms.arrayExpr (counted (table_of mode) left)) (view p room.old) result.cm (view result.p room.new) }
+    ensures { Does (env kinds.now joints.now) (atoms.array_expr (counted (table_of mode) left)) (view p room.old) result.cm (view result.p room.new) }
 {
     let p1 = p.must(kinds, joints, room, k::L_BRACK);
     let s = p1.start(room);
@@ -573,7 +573,7 @@ fn arr(kinds: &[u16], joints: &[u64], room: &mut [u32], p: Parser, mode: u8, lef
 #[cycle(args_arr_atom_blk_body_bx_call_cast_cplx_ctl_dcal_decl_def_els_expr_bp_fors_gate_gdef_gph_ids_idx_ifs_io_lhs_list_meas_mods_more_opt_par_post_qarg_range_rest_ret_scal_set_sig_spec_stmt_sts_subs_sw_tup_width)]
 fn body(kinds: &[u16], joints: &[u64], room: &mut [u32], p: Parser, mode: u8, left: u32) -> Parser
     requires { Fit p }
-    ensures { Does (env kinds.now joints.now) (atoms.tryBlockExpr (counted (table_of mode) left)) (view p room.old) tt (view result room.new) }
+    ensures { Does (env kinds.now joints.now) (atoms.try_block_expr (counted (table_of mode) left)) (view p room.old) tt (view result room.new) }
 {
     if p.at(kinds, joints, k::L_CURLY) {
         let d = blk(kinds, joints, room, p, mode, left);
@@ -586,7 +586,7 @@ fn body(kinds: &[u16], joints: &[u64], room: &mut [u32], p: Parser, mode: u8, le
 #[cycle(args_arr_atom_blk_body_bx_call_cast_cplx_ctl_dcal_decl_def_els_expr_bp_fors_gate_gdef_gph_ids_idx_ifs_io_lhs_list_meas_mods_more_opt_par_post_qarg_range_rest_ret_scal_set_sig_spec_stmt_sts_subs_sw_tup_width)]
 fn blk(kinds: &[u16], joints: &[u64], room: &mut [u32], p: Parser, mode: u8, left: u32) -> Done
     requires { Fit p }
-    ensures { Does (env kinds.now joints.now) (atoms.blockExpr (counted (table_of mode) left)) (view p room.old) result.cm (view result.p room.new) }
+    ensures { Does (env kinds.now joints.now) (atoms.block_expr (counted (table_of mode) left)) (view p room.old) result.cm (view result.p room.new) }
 {
     let p1 = p.must(kinds, joints, room, k::L_CURLY);
     let s = p1.start(room);
@@ -601,7 +601,7 @@ fn blk(kinds: &[u16], joints: &[u64], room: &mut [u32], p: Parser, mode: u8, lef
 #[cycle(args_arr_atom_blk_body_bx_call_cast_cplx_ctl_dcal_decl_def_els_expr_bp_fors_gate_gdef_gph_ids_idx_ifs_io_lhs_list_meas_mods_more_opt_par_post_qarg_range_rest_ret_scal_set_sig_spec_stmt_sts_subs_sw_tup_width)]
 fn ret(kinds: &[u16], joints: &[u64], room: &mut [u32], p: Parser, mode: u8, left: u32) -> Done
     requires { Fit p }
-    ensures { Does (env kinds.now joints.now) (atoms.returnExpr (counted (table_of mode) left)) (view p room.old) result.cm (view result.p room.new) }
+    ensures { Does (env kinds.now joints.now) (atoms.return_expr (counted (table_of mode) left)) (view p room.old) result.cm (view result.p room.new) }
 {
     let p1 = p.must(kinds, joints, room, k::RETURN_KW);
     let s = p1.start(room);
@@ -621,7 +621,7 @@ fn ret(kinds: &[u16], joints: &[u64], room: &mut [u32], p: Parser, mode: u8, lef
 #[cycle(args_arr_atom_blk_body_bx_call_cast_cplx_ctl_dcal_decl_def_els_expr_bp_fors_gate_gdef_gph_ids_idx_ifs_io_lhs_list_meas_mods_more_opt_par_post_qarg_range_rest_ret_scal_set_sig_spec_stmt_sts_subs_sw_tup_width)]
 fn bx(kinds: &[u16], joints: &[u64], room: &mut [u32], p: Parser, mode: u8, left: u32) -> Done
     requires { Fit p }
-    ensures { Does (env kinds.now joints.now) (atoms.boxExpr (counted (table_of mode) left)) (view p room.old) result.cm (view result.p room.new) }
+    ensures { Does (env kinds.now joints.now) (atoms.box_expr (counted (table_of mode) left)) (view p room.old) result.cm (view result.p room.new) }
 {
     let p1 = p.must(kinds, joints, room, k::BOX_KW);
     let s = p1.start(room);
@@ -643,7 +643,7 @@ fn bx(kinds: &[u16], joints: &[u64], room: &mut [u32], p: Parser, mode: u8, left
 #[cycle(args_arr_atom_blk_body_bx_call_cast_cplx_ctl_dcal_decl_def_els_expr_bp_fors_gate_gdef_gph_ids_idx_ifs_io_lhs_list_meas_mods_more_opt_par_post_qarg_range_rest_ret_scal_set_sig_spec_stmt_sts_subs_sw_tup_width)]
 fn range(kinds: &[u16], joints: &[u64], room: &mut [u32], p: Parser, mode: u8, left: u32) -> Parser
     requires { Fit p }
-    ensures { Does (env kinds.now joints.now) (E.rangeExpr (counted (table_of mode) left)) (view p room.old) tt (view result room.new) }
+    ensures { Does (env kinds.now joints.now) (E.range_expr (counted (table_of mode) left)) (view p room.old) tt (view result room.new) }
 {
     let s = p.start(room);
     let p1 = s.p;
@@ -734,7 +734,7 @@ fn stmt(kinds: &[u16], joints: &[u64], room: &mut [u32], p: Parser, mode: u8, le
 #[cycle(args_arr_atom_blk_body_bx_call_cast_cplx_ctl_dcal_decl_def_els_expr_bp_fors_gate_gdef_gph_ids_idx_ifs_io_lhs_list_meas_mods_more_opt_par_post_qarg_range_rest_ret_scal_set_sig_spec_stmt_sts_subs_sw_tup_width)]
 fn sts(kinds: &[u16], joints: &[u64], room: &mut [u32], p: Parser, mode: u8, left: u32) -> Parser
     requires { Fit p }
-    ensures { Does (env kinds.now joints.now) (E.exprBlockContents (counted (table_of mode) left)) (view p room.old) tt (view result room.new) }
+    ensures { Does (env kinds.now joints.now) (E.expr_block_contents (counted (table_of mode) left)) (view p room.old) tt (view result room.new) }
 {
     let mut q = p;
     while q.goes_on(kinds, joints, k::R_CURLY) {
@@ -758,7 +758,7 @@ pub fn expr_bp(
 ) -> Parsed
     requires fit { Fit p }
     requires le_bp { 1 ≤ bp }
-    ensures { Does (env kinds.now joints.now) ((counted (table_of mode) left).exprBp given prefer bp) (view p room.old) result.got (view result.p room.new) }
+    ensures { Does (env kinds.now joints.now) ((counted (table_of mode) left).expr_bp given prefer bp) (view p room.old) result.got (view result.p room.new) }
 {
     if left == 0 {
         let q = p.stop(room, Stop::Deep);
@@ -913,7 +913,7 @@ fn post(
     allow: bool,
 ) -> Parsed
     requires { Fit p }
-    ensures { Does (env kinds.now joints.now) (E.postfixExpr (counted (table_of mode) left) (later (counted (table_of mode) left)) first block allow) (view p room.old) result.got (view result.p room.new) }
+    ensures { Does (env kinds.now joints.now) (E.postfix_expr (counted (table_of mode) left) (later (counted (table_of mode) left)) first block allow) (view p room.old) result.got (view result.p room.new) }
 {
     let mut q = p;
     let mut cm = first;
@@ -984,7 +984,7 @@ fn call(
     first: Completed,
 ) -> Done
     requires { Fit p }
-    ensures { Does (env kinds.now joints.now) (E.callExpr (counted (table_of mode) left) (later (counted (table_of mode) left)) first) (view p room.old) result.cm (view result.p room.new) }
+    ensures { Does (env kinds.now joints.now) (E.call_expr (counted (table_of mode) left) (later (counted (table_of mode) left)) first) (view p room.old) result.cm (view result.p room.new) }
 {
     let p1 = p.must(kinds, joints, room, k::L_PAREN);
     let s = p1.precede(room, first);
@@ -1011,7 +1011,7 @@ fn call(
 #[cycle(args_arr_atom_blk_body_bx_call_cast_cplx_ctl_dcal_decl_def_els_expr_bp_fors_gate_gdef_gph_ids_idx_ifs_io_lhs_list_meas_mods_more_opt_par_post_qarg_range_rest_ret_scal_set_sig_spec_stmt_sts_subs_sw_tup_width)]
 fn spec(kinds: &[u16], joints: &[u64], room: &mut [u32], p: Parser, mode: u8, left: u32) -> Parser
     requires { Fit p }
-    ensures { Does (env kinds.now joints.now) (counted (table_of mode) left).typeSpec (view p room.old) tt (view result room.new) }
+    ensures { Does (env kinds.now joints.now) (counted (table_of mode) left).type_spec (view p room.old) tt (view result room.new) }
 {
     if left == 0 {
         return p.stop(room, Stop::Deep);
@@ -1052,7 +1052,7 @@ fn spec(kinds: &[u16], joints: &[u64], room: &mut [u32], p: Parser, mode: u8, le
 #[cycle(args_arr_atom_blk_body_bx_call_cast_cplx_ctl_dcal_decl_def_els_expr_bp_fors_gate_gdef_gph_ids_idx_ifs_io_lhs_list_meas_mods_more_opt_par_post_qarg_range_rest_ret_scal_set_sig_spec_stmt_sts_subs_sw_tup_width)]
 fn scal(kinds: &[u16], joints: &[u64], room: &mut [u32], p: Parser, mode: u8, left: u32) -> Parser
     requires { Fit p }
-    ensures { Does (env kinds.now joints.now) (E.nonArrayTypeSpec (counted (table_of mode) left)) (view p room.old) tt (view result room.new) }
+    ensures { Does (env kinds.now joints.now) (E.non_array_type_spec (counted (table_of mode) left)) (view p room.old) tt (view result room.new) }
 {
     if p.at(kinds, joints, k::COMPLEX_TY) {
         return cplx(kinds, joints, room, p, mode, left);
@@ -1071,7 +1071,7 @@ fn scal(kinds: &[u16], joints: &[u64], room: &mut [u32], p: Parser, mode: u8, le
 #[cycle(args_arr_atom_blk_body_bx_call_cast_cplx_ctl_dcal_decl_def_els_expr_bp_fors_gate_gdef_gph_ids_idx_ifs_io_lhs_list_meas_mods_more_opt_par_post_qarg_range_rest_ret_scal_set_sig_spec_stmt_sts_subs_sw_tup_width)]
 fn cplx(kinds: &[u16], joints: &[u64], room: &mut [u32], p: Parser, mode: u8, left: u32) -> Parser
     requires { Fit p }
-    ensures { Does (env kinds.now joints.now) (counted (table_of mode) left).complexTypeSpec (view p room.old) tt (view result room.new) }
+    ensures { Does (env kinds.now joints.now) (counted (table_of mode) left).complex_type_spec (view p room.old) tt (view result room.new) }
 {
     if left == 0 {
         return p.stop(room, Stop::Deep);
@@ -1125,7 +1125,7 @@ fn ids(
     first: Completed,
 ) -> Done
     requires { Fit p }
-    ensures { Does (env kinds.now joints.now) (E.indexedIdentifier (counted (table_of mode) left) first) (view p room.old) result.cm (view result.p room.new) }
+    ensures { Does (env kinds.now joints.now) (E.indexed_identifier (counted (table_of mode) left) first) (view p room.old) result.cm (view result.p room.new) }
 {
     let p1 = p.must(kinds, joints, room, k::L_BRACK);
     let s = p1.precede(room, first);
@@ -1141,7 +1141,7 @@ fn ids(
 #[cycle(args_arr_atom_blk_body_bx_call_cast_cplx_ctl_dcal_decl_def_els_expr_bp_fors_gate_gdef_gph_ids_idx_ifs_io_lhs_list_meas_mods_more_opt_par_post_qarg_range_rest_ret_scal_set_sig_spec_stmt_sts_subs_sw_tup_width)]
 fn set(kinds: &[u16], joints: &[u64], room: &mut [u32], p: Parser, mode: u8, left: u32) -> Parser
     requires { Fit p }
-    ensures { Does (env kinds.now joints.now) (E.setExpression (counted (table_of mode) left)) (view p room.old) tt (view result room.new) }
+    ensures { Does (env kinds.now joints.now) (E.set_expression (counted (table_of mode) left)) (view p room.old) tt (view result room.new) }
 {
     let p1 = p.must(kinds, joints, room, k::L_CURLY);
     let s = p1.start(room);
@@ -1156,7 +1156,7 @@ fn set(kinds: &[u16], joints: &[u64], room: &mut [u32], p: Parser, mode: u8, lef
 #[cycle(args_arr_atom_blk_body_bx_call_cast_cplx_ctl_dcal_decl_def_els_expr_bp_fors_gate_gdef_gph_ids_idx_ifs_io_lhs_list_meas_mods_more_opt_par_post_qarg_range_rest_ret_scal_set_sig_spec_stmt_sts_subs_sw_tup_width)]
 fn subs(kinds: &[u16], joints: &[u64], room: &mut [u32], p: Parser, mode: u8, left: u32) -> Parser
     requires { Fit p }
-    ensures { Does (env kinds.now joints.now) (E.indexOperator (counted (table_of mode) left)) (view p room.old) tt (view result room.new) }
+    ensures { Does (env kinds.now joints.now) (E.index_operator (counted (table_of mode) left)) (view p room.old) tt (view result room.new) }
 {
     let p1 = p.must(kinds, joints, room, k::L_BRACK);
     let s = p1.start(room);
@@ -1174,7 +1174,7 @@ fn subs(kinds: &[u16], joints: &[u64], room: &mut [u32], p: Parser, mode: u8, le
 #[cycle(args_arr_atom_blk_body_bx_call_cast_cplx_ctl_dcal_decl_def_els_expr_bp_fors_gate_gdef_gph_ids_idx_ifs_io_lhs_list_meas_mods_more_opt_par_post_qarg_range_rest_ret_scal_set_sig_spec_stmt_sts_subs_sw_tup_width)]
 fn args(kinds: &[u16], joints: &[u64], room: &mut [u32], p: Parser, mode: u8, left: u32) -> Parser
     requires { Fit p }
-    ensures { Does (env kinds.now joints.now) (E.callArgList (counted (table_of mode) left)) (view p room.old) tt (view result room.new) }
+    ensures { Does (env kinds.now joints.now) (E.call_arg_list (counted (table_of mode) left)) (view p room.old) tt (view result room.new) }
 {
     let p1 = p.must(kinds, joints, room, k::L_PAREN);
     let s = p1.start(room);
@@ -1215,7 +1215,7 @@ fn opt(
     m: u32,
 ) -> Offered
     requires { Fit p }
-    ensures { Does (env kinds.now joints.now) (I.optItem (counted (table_of mode) left) m) (view p room.old) result.offer (view result.p room.new) }
+    ensures { Does (env kinds.now joints.now) (I.opt_item (counted (table_of mode) left) m) (view p room.old) result.offer (view result.p room.new) }
 {
     let la = p.nth(kinds, joints, 1);
     let p1 = la.p;
@@ -1374,7 +1374,7 @@ fn more(
     first: u16,
 ) -> Offered
     requires { Fit p }
-    ensures { Does (env kinds.now joints.now) (I.optItemMore (counted (table_of mode) left) m first) (view p room.old) result.offer (view result.p room.new) }
+    ensures { Does (env kinds.now joints.now) (I.opt_item_more (counted (table_of mode) left) m first) (view p room.old) result.offer (view result.p room.new) }
 {
     match first {
         k::RESET_KW => {
@@ -1515,7 +1515,7 @@ fn sw(
     m: u32,
 ) -> Parser
     requires { Fit p }
-    ensures { Does (env kinds.now joints.now) (I.switchCaseStmt (counted (table_of mode) left) m) (view p room.old) tt (view result room.new) }
+    ensures { Does (env kinds.now joints.now) (I.switch_case_stmt (counted (table_of mode) left) m) (view p room.old) tt (view result room.new) }
 {
     let p1 = p.must(kinds, joints, room, k::SWITCH_KW);
     let p2 = p1.bump(kinds, joints, room, k::SWITCH_KW);
@@ -1561,7 +1561,7 @@ fn ifs(
     m: u32,
 ) -> Parser
     requires { Fit p }
-    ensures { Does (env kinds.now joints.now) ((counted (table_of mode) left).ifStmt m) (view p room.old) tt (view result room.new) }
+    ensures { Does (env kinds.now joints.now) ((counted (table_of mode) left).if_stmt m) (view p room.old) tt (view result room.new) }
 {
     if left == 0 {
         return p.stop(room, Stop::Deep);
@@ -1600,7 +1600,7 @@ fn fors(
     m: u32,
 ) -> Parser
     requires { Fit p }
-    ensures { Does (env kinds.now joints.now) (I.forStmt (counted (table_of mode) left) m) (view p room.old) tt (view result room.new) }
+    ensures { Does (env kinds.now joints.now) (I.for_stmt (counted (table_of mode) left) m) (view p room.old) tt (view result room.new) }
 {
     let p1 = p.must(kinds, joints, room, k::FOR_KW);
     let p2 = p1.bump(kinds, joints, room, k::FOR_KW);
@@ -1635,7 +1635,7 @@ fn rest(
     m1: u32,
 ) -> Parser
     requires { Fit p }
-    ensures { Does (env kinds.now joints.now) (I.forRest (counted (table_of mode) left) m m1) (view p room.old) tt (view result room.new) }
+    ensures { Does (env kinds.now joints.now) (I.for_rest (counted (table_of mode) left) m m1) (view p room.old) tt (view result room.new) }
 {
     let p1 = grammar::completed(room, p, m1, k::FOR_ITERABLE);
     if p1.at(kinds, joints, k::L_CURLY) {
@@ -1659,7 +1659,7 @@ fn gdef(
     m: u32,
 ) -> Parser
     requires { Fit p }
-    ensures { Does (env kinds.now joints.now) (I.gateDefinition (counted (table_of mode) left) m) (view p room.old) tt (view result room.new) }
+    ensures { Does (env kinds.now joints.now) (I.gate_definition (counted (table_of mode) left) m) (view p room.old) tt (view result room.new) }
 {
     let p1 = p.bump(kinds, joints, room, k::GATE_KW);
     let p2 = grammar::name_r(kinds, joints, room, p1, Fixed::ItemRecoverySet);
@@ -1711,7 +1711,7 @@ fn decl(
     m: u32,
 ) -> Parser
     requires { Fit p }
-    ensures { Does (env kinds.now joints.now) (I.classicalDeclarationStmt (counted (table_of mode) left) m) (view p room.old) tt (view result room.new) }
+    ensures { Does (env kinds.now joints.now) (I.classical_declaration_stmt (counted (table_of mode) left) m) (view p room.old) tt (view result room.new) }
 {
     let t = p.eat(kinds, joints, room, k::CONST_KW);
     let p1 = t.p;
@@ -1768,7 +1768,7 @@ fn io(
     m: u32,
 ) -> Parser
     requires { Fit p }
-    ensures { Does (env kinds.now joints.now) (I.ioDeclarationStmt (counted (table_of mode) left) m) (view p room.old) tt (view result room.new) }
+    ensures { Does (env kinds.now joints.now) (I.io_declaration_stmt (counted (table_of mode) left) m) (view p room.old) tt (view result room.new) }
 {
     let p1 = p.bump_any(kinds, joints, room);
     let p2 = items::io_type(kinds, joints, room, p1);
@@ -1797,7 +1797,7 @@ fn def(
     m: u32,
 ) -> Parser
     requires { Fit p }
-    ensures { Does (env kinds.now joints.now) (I.defStmt (counted (table_of mode) left) m) (view p room.old) tt (view result room.new) }
+    ensures { Does (env kinds.now joints.now) (I.def_stmt (counted (table_of mode) left) m) (view p room.old) tt (view result room.new) }
 {
     let p1 = p.must(kinds, joints, room, k::DEF_KW);
     let p2 = p1.bump_any(kinds, joints, room);

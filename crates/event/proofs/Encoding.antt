@@ -8,7 +8,7 @@ use borrow.Author.Tests.{eqb-true, eqb-false, leb-true, ltb-true, eq-eqb, ne_eqb
 use Rattle.laws.proofs.Tests.{by-test, apart}
 use Rattle.event.specs.declared.Event.{Event}
 use Rattle.event.specs.declared.Event.TheVariants.{Start, Finish, Token, Error, NoEvent}
-use Rattle.event.specs.Event.{words, encode, errorOf, decode, Sound, isStart, is_bare, withKind, with_distance, distance}
+use Rattle.event.specs.Event.{words, encode, error_of, decode, Sound, is_start, is_bare, with_kind, with_distance, distance}
 
 -- the event that the words of an event say
 abbrev pub again : Event → Event
@@ -16,7 +16,7 @@ again e = decode (encode e).first (encode e).second
 
 -- the words of a sound event say that event
 pub decode-encode : (e : Event) → Sound e → again e ≡ e
-unfolding encode decode errorOf
+unfolding encode decode error_of
 decode-encode (Start k d) h =
     let t : (65536 + k) / 65536 ≡ 1 = omega arith in
     let m : (65536 + k) % 65536 ≡ k = omega arith in
@@ -54,7 +54,7 @@ unfolding Back encode
 nothing a b = (refl, λ n. absurd (n refl))
 
 back : (a b : ℕ) → Back a b (decode a b)
-unfolding Back decode errorOf encode
+unfolding Back decode error_of encode
 back a b =
     by-test (Back a b) (eqb (a / 65536) 1) _ _ start λ _.
     by-test (Back a b) (eqb (a / 65536) 2) _ _ finish λ _.
@@ -78,7 +78,7 @@ back a b =
         by-test (Back a b) (eqb b 0) _ _ (λ _. nothing a b)
         (λ z. by-test (Back a b) (leb b 3) _ _ (λ l. (pair (omega (arith, eqb-true (a / 65536) 3 t)) refl, λ n. (omega arith, omega (arith, eqb-false b 0 z), leb-true b 3 l))) (λ _. nothing a b))
 
-    error : eqb (a / 65536) 4 ≡ true → Back a b (errorOf (a % 65536) b (NoEvent a b))
+    error : eqb (a / 65536) 4 ≡ true → Back a b (error_of (a % 65536) b (NoEvent a b))
     error t =
         by-test (Back a b) (eqb (a % 65536) 1) _ _
         (λ o. by-test (Back a b) (ltb b 4294967296) _ _
@@ -103,10 +103,10 @@ say-start a b e = rw (eq-eqb (a / 65536) 1 e)
 
 -- no start, and so no distance
 abbrev Still : Event → Type 0
-Still e = (isStart e ≡ false) × (distance e ≡ 0)
+Still e = (is_start e ≡ false) × (distance e ≡ 0)
 
-pub say-other : (a b : ℕ) → (a / 65536 ≡ 1 → ⊥) → (isStart (decode a b) ≡ false) × (distance (decode a b) ≡ 0)
-unfolding decode errorOf
+pub say-other : (a b : ℕ) → (a / 65536 ≡ 1 → ⊥) → (is_start (decode a b) ≡ false) × (distance (decode a b) ≡ 0)
+unfolding decode error_of
 say-other a b n =
     rw (ne_eqb (a / 65536) 1 n)
     (by-test Still (eqb (a / 65536) 2) _ _
@@ -119,7 +119,7 @@ say-other a b n =
     (λ _. by-test Still (ltb b 65536) _ _ (λ _. (refl, refl)) (λ _. (refl, refl))))
     (λ _. (refl, refl)))
 
-pub start-tag : (a b : ℕ) → isStart (decode a b) ≡ true → a / 65536 ≡ 1
+pub start-tag : (a b : ℕ) → is_start (decode a b) ≡ true → a / 65536 ≡ 1
 start-tag a b h = by (eqb (a / 65536) 1) refl
   where
     by : (t : Bool) → eqb (a / 65536) 1 ≡ t → a / 65536 ≡ 1
@@ -127,11 +127,11 @@ start-tag a b h = by (eqb (a / 65536) 1) refl
     by false e = apart (sym (say-other a b (eqb-false (a / 65536) 1 e)).0 ∙ h)
 
 -- What the code tests: a start, and one with neither kind nor distance.
-pub starts-at : (a b : ℕ) → eqb (a / 65536) 1 ≡ isStart (decode a b)
+pub starts-at : (a b : ℕ) → eqb (a / 65536) 1 ≡ is_start (decode a b)
 starts-at a b = by (eqb (a / 65536) 1) refl
   where
-    by : (t : Bool) → eqb (a / 65536) 1 ≡ t → eqb (a / 65536) 1 ≡ isStart (decode a b)
-    by true e = e ∙ ap isStart (sym (say-start a b (eqb-true (a / 65536) 1 e)))
+    by : (t : Bool) → eqb (a / 65536) 1 ≡ t → eqb (a / 65536) 1 ≡ is_start (decode a b)
+    by true e = e ∙ ap is_start (sym (say-start a b (eqb-true (a / 65536) 1 e)))
     by false e = e ∙ sym (say-other a b (eqb-false (a / 65536) 1 e)).0
 
 pub bare-first : (a b : ℕ) → a ≡ 65536 → eqb b 0 ≡ is_bare (decode a b)
@@ -141,7 +141,7 @@ bare-first a b e = rw e
 pub bare-other : (a b : ℕ) → (a ≡ 65536 → ⊥) → false ≡ is_bare (decode a b)
 bare-other a b n = by (eqb (a / 65536) 1) refl
   where
-    none_bare : (e : Event) → isStart e ≡ false → false ≡ is_bare e
+    none_bare : (e : Event) → is_start e ≡ false → false ≡ is_bare e
     none_bare (Start k d) h = apart (sym h)
     none_bare Finish h = refl
     none_bare (Token k c) h = refl
@@ -153,7 +153,7 @@ bare-other a b n = by (eqb (a / 65536) 1) refl
     by false e = none_bare (decode a b) (say-other a b (eqb-false (a / 65536) 1 e)).0
 
 -- a bare start is a start
-pub bare-start : (e : Event) → is_bare e ≡ true → isStart e ≡ true
+pub bare-start : (e : Event) → is_bare e ≡ true → is_start e ≡ true
 bare-start (Start k d) h = refl
 bare-start Finish h = h
 bare-start (Token k n) h = h
@@ -161,10 +161,10 @@ bare-start (Error c x f) h = h
 bare-start (NoEvent a b) h = h
 
 -- A start that words say is sound, and stays so with another kind that fits or another distance.
-pub start-sound : (a b : ℕ) → isStart (decode a b) ≡ true → Sound (decode a b)
-start-sound a b h = decode-sound a b (λ e. apart (sym (ap isStart e) ∙ h))
+pub start-sound : (a b : ℕ) → is_start (decode a b) ≡ true → Sound (decode a b)
+start-sound a b h = decode-sound a b (λ e. apart (sym (ap is_start e) ∙ h))
 
-pub kind-sound : (k : ℕ) (e : Event) → k < 65536 → isStart e ≡ true → Sound (withKind k e)
+pub kind-sound : (k : ℕ) (e : Event) → k < 65536 → is_start e ≡ true → Sound (with_kind k e)
 kind-sound k (Start j d) l h = l
 kind-sound k Finish l h = apart h
 kind-sound k (Token j n) l h = apart h

@@ -5,11 +5,11 @@ use Rattle.event.specs.declared.Event.TheVariants.{Start, Finish, Token, Error, 
 use Rattle.event.specs.declared.Words.{Words}
 
 -- how many words an event has, and how many events a list at most
-abbrev pub eventWords : ℕ
-eventWords = 2
+abbrev pub event_words : ℕ
+event_words = 2
 
-abbrev pub mostEvents : ℕ
-mostEvents = 65536
+abbrev pub most_events : ℕ
+most_events = 65536
 
 abbrev pub words : ℕ → ℕ → Words
 words a b = record { first = a; second = b }
@@ -24,8 +24,8 @@ encode (NoEvent a b) = words a b
 
 -- An error, by its code and second word: "expected KIND", which is code 1, has there the kind expected and 65,536 times the kind found,
 -- in any word of 32 bits; another code has an argument of 16 bits, and found nothing. What else stands there says x.
-unfoldable pub errorOf : ℕ → ℕ → Event → Event
-errorOf c b x =
+unfoldable pub error_of : ℕ → ℕ → Event → Event
+error_of c b x =
     cond (eqb c 1) (cond (ltb b 4294967296) (Error c (b % 65536) (b / 65536)) x)
     (cond (ltb b 65536) (Error c b 0) x)
 
@@ -35,7 +35,7 @@ decode a b =
     cond (eqb (a / 65536) 1) (Start (a % 65536) b)
     (cond (eqb (a / 65536) 2) (cond (eqb (a % 65536) 0) (cond (eqb b 0) Finish (NoEvent a b)) (NoEvent a b))
     (cond (eqb (a / 65536) 3) (cond (eqb b 0) (NoEvent a b) (cond (leb b 3) (Token (a % 65536) b) (NoEvent a b)))
-    (cond (eqb (a / 65536) 4) (errorOf (a % 65536) b (NoEvent a b)) (NoEvent a b))))
+    (cond (eqb (a / 65536) 4) (error_of (a % 65536) b (NoEvent a b)) (NoEvent a b))))
 
 -- an event whose numbers are in their ranges
 abbrev pub Sound : Event → Type 0
@@ -46,15 +46,15 @@ Sound (Error c x f) = (c < 65536) × (x < 65536) × (f < 65536) × ((c ≡ 1 →
 Sound (NoEvent a b) = ⊥
 
 -- a room's whole events; the word of an odd room that is in no event; and the words of events
-unfoldable pub eventsOf : List ℕ → List Event
-eventsOf [] = []
-eventsOf (a ∷ []) = []
-eventsOf (a ∷ (b ∷ ws)) = decode a b ∷ eventsOf ws
+unfoldable pub events_of : List ℕ → List Event
+events_of [] = []
+events_of (a ∷ []) = []
+events_of (a ∷ (b ∷ ws)) = decode a b ∷ events_of ws
 
-unfoldable pub leftOver : List ℕ → List ℕ
-leftOver [] = []
-leftOver (a ∷ []) = a ∷ []
-leftOver (a ∷ (b ∷ ws)) = leftOver ws
+unfoldable pub left_over : List ℕ → List ℕ
+left_over [] = []
+left_over (a ∷ []) = a ∷ []
+left_over (a ∷ (b ∷ ws)) = left_over ws
 
 unfoldable pub words_of : List Event → List ℕ
 words_of [] = []
@@ -62,11 +62,11 @@ words_of (e ∷ es) = (encode e).first ∷ ((encode e).second ∷ words_of es)
 
 -- a room with the words of event i written
 abbrev pub stored : List ℕ → ℕ → Event → List ℕ
-stored ws i e = set (set ws (eventWords * i) (encode e).first) (eventWords * i + 1) (encode e).second
+stored ws i e = set (set ws (event_words * i) (encode e).first) (event_words * i + 1) (encode e).second
 
 -- so many places hold at most 65,536 events
 abbrev pub holds : ℕ → ℕ
-holds n = min n mostEvents
+holds n = min n most_events
 
 -- zeros say no event; `Event::tombstone` of event.rs has no kind and no distance
 abbrev pub none : Event
@@ -76,12 +76,12 @@ abbrev pub tombstone : Event
 tombstone = Start 0 0
 
 -- Events as parser.rs and event.rs take them apart: a start, a tombstone, a token,
-abbrev pub isStart : Event → Bool
-isStart (Start k d) = true
-isStart Finish = false
-isStart (Token k n) = false
-isStart (Error c x f) = false
-isStart (NoEvent a b) = false
+abbrev pub is_start : Event → Bool
+is_start (Start k d) = true
+is_start Finish = false
+is_start (Token k n) = false
+is_start (Error c x f) = false
+is_start (NoEvent a b) = false
 
 abbrev pub is_bare : Event → Bool
 is_bare (Start k d) = cond (eqb k 0) (eqb d 0) false
@@ -90,12 +90,12 @@ is_bare (Token k n) = false
 is_bare (Error c x f) = false
 is_bare (NoEvent a b) = false
 
-abbrev pub isToken : Event → Bool
-isToken (Start k d) = false
-isToken Finish = false
-isToken (Token k n) = true
-isToken (Error c x f) = false
-isToken (NoEvent a b) = false
+abbrev pub is_token : Event → Bool
+is_token (Start k d) = false
+is_token Finish = false
+is_token (Token k n) = true
+is_token (Error c x f) = false
+is_token (NoEvent a b) = false
 
 -- the distance to the forward parent, 0 for none,
 abbrev pub distance : Event → ℕ
@@ -106,12 +106,12 @@ distance (Error c x f) = 0
 distance (NoEvent a b) = 0
 
 -- and a start with another kind, or another distance
-abbrev pub withKind : ℕ → Event → Event
-withKind j (Start k d) = Start j d
-withKind j Finish = Finish
-withKind j (Token k n) = Token k n
-withKind j (Error c x f) = Error c x f
-withKind j (NoEvent a b) = NoEvent a b
+abbrev pub with_kind : ℕ → Event → Event
+with_kind j (Start k d) = Start j d
+with_kind j Finish = Finish
+with_kind j (Token k n) = Token k n
+with_kind j (Error c x f) = Error c x f
+with_kind j (NoEvent a b) = NoEvent a b
 
 abbrev pub with_distance : ℕ → Event → Event
 with_distance j (Start k d) = Start k j

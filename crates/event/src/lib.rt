@@ -2,7 +2,7 @@
 // resolution read them here.
 ghost use Rattle.std.specs.Prelude.{◌≡◌, true, ◌/◌, ◌<◌, length, get_or, set};
 ghost use Rattle.event.specs.Event as spec;
-ghost use Rattle.event.specs.Event.{eventWords, eventsOf, stored};
+ghost use Rattle.event.specs.Event.{event_words, events_of, stored};
 
 // How many words an event has.
 pub const EVENT_WORDS: usize = 2;
@@ -118,7 +118,7 @@ pub fn distance(e: Event) -> u32
 
 // How many events a room of words holds.
 pub fn holds(words: usize) -> usize
-    ensures { result ≡ spec.holds (words / eventWords) }
+    ensures { result ≡ spec.holds (words / event_words) }
 {
     if words / EVENT_WORDS < MOST_EVENTS {
         words / EVENT_WORDS
@@ -129,8 +129,8 @@ pub fn holds(words: usize) -> usize
 
 // Event i of a list.
 pub fn event_at(words: &[u32], i: usize) -> Event
-    requires { i < length words.now / eventWords }
-    ensures { result ≡ get_or (eventsOf words.now) i spec.none }
+    requires { i < length words.now / event_words }
+    ensures { result ≡ get_or (events_of words.now) i spec.none }
 {
     let at = EVENT_WORDS * i;
     decode(words[at], words[at + 1])
@@ -138,7 +138,7 @@ pub fn event_at(words: &[u32], i: usize) -> Event
 
 // Writes event i of a list.
 pub fn store(words: &mut [u32], i: usize, e: Event)
-    requires { i < length words.old / eventWords }
+    requires { i < length words.old / event_words }
     ensures { words.new ≡ stored words.old i e }
 {
     let at = EVENT_WORDS * i;
@@ -149,16 +149,16 @@ pub fn store(words: &mut [u32], i: usize, e: Event)
 
 // Whether event i of a list is a start: its first word tells.
 pub fn start_at(words: &[u32], i: usize) -> bool
-    requires { i < length words.now / eventWords }
-    ensures { result ≡ spec.isStart (get_or (eventsOf words.now) i spec.none) }
+    requires { i < length words.now / event_words }
+    ensures { result ≡ spec.is_start (get_or (events_of words.now) i spec.none) }
 {
     words[EVENT_WORDS * i] / START == 1
 }
 
 // Whether it is a start with neither kind nor distance: `Event::tombstone()`.
 pub fn bare_at(words: &[u32], i: usize) -> bool
-    requires { i < length words.now / eventWords }
-    ensures { result ≡ spec.is_bare (get_or (eventsOf words.now) i spec.none) }
+    requires { i < length words.now / event_words }
+    ensures { result ≡ spec.is_bare (get_or (events_of words.now) i spec.none) }
 {
     if words[EVENT_WORDS * i] == START {
         return words[EVENT_WORDS * i + 1] == 0;
@@ -168,9 +168,9 @@ pub fn bare_at(words: &[u32], i: usize) -> bool
 
 // Gives the start that stands at i another kind.
 pub fn set_kind(words: &mut [u32], i: usize, kind: u16)
-    requires i_in_bounds { i < length words.old / eventWords }
-    requires none_value { spec.isStart (get_or (eventsOf words.old) i spec.none) ≡ true }
-    ensures { words.new ≡ stored words.old i (spec.withKind kind (get_or (eventsOf words.old) i spec.none)) }
+    requires i_in_bounds { i < length words.old / event_words }
+    requires none_value { spec.is_start (get_or (events_of words.old) i spec.none) ≡ true }
+    ensures { words.new ≡ stored words.old i (spec.with_kind kind (get_or (events_of words.old) i spec.none)) }
 {
     let at = EVENT_WORDS * i;
     let distance = words[at + 1];
@@ -180,9 +180,9 @@ pub fn set_kind(words: &mut [u32], i: usize, kind: u16)
 
 // Gives it another distance.
 pub fn set_distance(words: &mut [u32], i: usize, distance: u32)
-    requires i_in_bounds { i < length words.old / eventWords }
-    requires none_value { spec.isStart (get_or (eventsOf words.old) i spec.none) ≡ true }
-    ensures { words.new ≡ stored words.old i (spec.with_distance distance (get_or (eventsOf words.old) i spec.none)) }
+    requires i_in_bounds { i < length words.old / event_words }
+    requires none_value { spec.is_start (get_or (events_of words.old) i spec.none) ≡ true }
+    ensures { words.new ≡ stored words.old i (spec.with_distance distance (get_or (events_of words.old) i spec.none)) }
 {
     let at = EVENT_WORDS * i;
     let first = words[at];
@@ -192,8 +192,8 @@ pub fn set_distance(words: &mut [u32], i: usize, distance: u32)
 
 // Makes event i a bare tombstone.
 pub fn clear(words: &mut [u32], i: usize)
-    requires { i < length words.old / eventWords }
-    ensures { eventsOf words.new ≡ set (eventsOf words.old) i spec.tombstone }
+    requires { i < length words.old / event_words }
+    ensures { events_of words.new ≡ set (events_of words.old) i spec.tombstone }
 {
     store(words, i, Event::Start(0, 0))
 }

@@ -15,17 +15,17 @@ use Rattle.laws.proofs.Tests.{apart}
 use Rattle.input.specs.declared.Parts.{Parts}
 use Rattle.input.specs.declared.Parts.TheVariants.{One, Two, Three}
 use Rattle.input.specs.Input.{Env, seen}
-use Rattle.input.specs.Glue.{gluedKinds, parts_in, parts_of, rawCount, standsAt}
+use Rattle.input.specs.Glue.{glued_kinds, parts_in, parts_of, raw_count, stands_at}
 use Rattle.input.proofs.Reading.{both_true}
 use Rattle.runtime.specs.Cover.{Stands}
 use Rattle.records.specs.declared.Step.{Step}
 use Rattle.records.specs.declared.Step.TheVariants.{Enter as enter, Leave as leave, Token as taken, Error as failed, Expected as wanted}
-use Rattle.promises.specs.Promised.{SaysAt, rawOf, CoverSteps}
-use Rattle.fromtext.specs.FromText.{partKinds, stepKinds, stepsKinds}
+use Rattle.promises.specs.Promised.{SaysAt, raw_of, CoverSteps}
+use Rattle.fromtext.specs.FromText.{part_kinds, step_kinds, steps_kinds}
 
 -- parts that stand at i are the next kinds
-parts-there : (e : Env) (i : ℕ) (g : Parts) → standsAt e 0 i g ≡ true → i + rawCount g ≤ length e.kinds → drop i e.kinds ≡ partKinds g ++ drop (i + rawCount g) e.kinds
-unfolding standsAt seen
+parts-there : (e : Env) (i : ℕ) (g : Parts) → stands_at e 0 i g ≡ true → i + raw_count g ≤ length e.kinds → drop i e.kinds ≡ part_kinds g ++ drop (i + raw_count g) e.kinds
+unfolding stands_at seen
 parts-there e i (One a) s h =
     let z : i + 1 ≡ suc i = omega arith in
     rw z (drop-cons e.kinds i EOF (omega arith) ∙ ap (λ (x : ℕ). x ∷ drop (suc i) e.kinds) (eqb-true _ a s))
@@ -59,42 +59,42 @@ all-several : List (ℕ × Parts) → Bool
 all-several [] = true
 all-several (g ∷ gs) = both (several g.1) (all-several gs)
 
-one_plain : (k : ℕ) (gs : List (ℕ × Parts)) → all-several gs ≡ true → rawCount (parts_in k gs) ≡ 1 → partKinds (parts_in k gs) ≡ k ∷ []
+one_plain : (k : ℕ) (gs : List (ℕ × Parts)) → all-several gs ≡ true → raw_count (parts_in k gs) ≡ 1 → part_kinds (parts_in k gs) ≡ k ∷ []
 unfolding all-several several
 one_plain k [] t h = refl
 one_plain k (g ∷ gs) t h = by (eqb k g.0) g.1 (both_true (several g.1) (all-several gs) t) h (one_plain k gs)
   where
-    by : (x : Bool) (p : Parts) → (several p ≡ true) × (all-several gs ≡ true) → rawCount (cond x p (parts_in k gs)) ≡ 1 → (all-several gs ≡ true → rawCount (parts_in k gs) ≡ 1 → partKinds (parts_in k gs) ≡ k ∷ []) → partKinds (cond x p (parts_in k gs)) ≡ k ∷ []
+    by : (x : Bool) (p : Parts) → (several p ≡ true) × (all-several gs ≡ true) → raw_count (cond x p (parts_in k gs)) ≡ 1 → (all-several gs ≡ true → raw_count (parts_in k gs) ≡ 1 → part_kinds (parts_in k gs) ≡ k ∷ []) → part_kinds (cond x p (parts_in k gs)) ≡ k ∷ []
     by true (One j) u h more = apart u.0
     by true (Two a b) u h more = absurd (omega arith)
     by true (Three a b c) u h more = absurd (omega arith)
     by false p u h more = more u.1 h
 
-one-kind : (k : ℕ) → rawCount (parts_of k) ≡ 1 → partKinds (parts_of k) ≡ k ∷ []
+one-kind : (k : ℕ) → raw_count (parts_of k) ≡ 1 → part_kinds (parts_of k) ≡ k ∷ []
 unfolding parts_of all-several several
-one-kind k h = one_plain k gluedKinds refl h
+one-kind k h = one_plain k glued_kinds refl h
 
 -- so a token step says the next kinds
-step-there : (e : Env) (i k n : ℕ) → Stands e i k n → drop i e.kinds ≡ stepKinds (taken k n) ++ drop (i + n) e.kinds
+step-there : (e : Env) (i k n : ℕ) → Stands e i k n → drop i e.kinds ≡ step_kinds (taken k n) ++ drop (i + n) e.kinds
 step-there e i k n s =
     let there = parts-there e i s.parts s.here (rw s.many at s.inside) in
     there ∙ ap₂ (λ (x : List ℕ) (m : ℕ). x ++ drop (i + m) e.kinds) (same s.of (eqb n 1) refl) (sym s.many)
   where
-    same : (s.parts ≡ One k) ⊎ (s.parts ≡ parts_of k) → (x : Bool) → eqb n 1 ≡ x → partKinds s.parts ≡ cond x (k ∷ []) (partKinds (parts_of k))
-    same (inl q) true p = ap partKinds q
-    same (inl q) false p = absurd (eqb-false n 1 p (s.many ∙ ap rawCount q))
-    same (inr q) true p = ap partKinds q ∙ one-kind k (ap rawCount (sym q) ∙ sym s.many ∙ eqb-true n 1 p)
-    same (inr q) false p = ap partKinds q
+    same : (s.parts ≡ One k) ⊎ (s.parts ≡ parts_of k) → (x : Bool) → eqb n 1 ≡ x → part_kinds s.parts ≡ cond x (k ∷ []) (part_kinds (parts_of k))
+    same (inl q) true p = ap part_kinds q
+    same (inl q) false p = absurd (eqb-false n 1 p (s.many ∙ ap raw_count q))
+    same (inr q) true p = ap part_kinds q ∙ one-kind k (ap raw_count (sym q) ∙ sym s.many ∙ eqb-true n 1 p)
+    same (inr q) false p = ap part_kinds q
 
-pub steps-there : (e : Env) (ss : List Step) (i j : ℕ) → CoverSteps e i ss j → drop i e.kinds ≡ stepsKinds ss ++ drop j e.kinds
-unfolding stepsKinds
+pub steps-there : (e : Env) (ss : List Step) (i j : ℕ) → CoverSteps e i ss j → drop i e.kinds ≡ steps_kinds ss ++ drop j e.kinds
+unfolding steps_kinds
 steps-there e [] i j h = ap (λ (n : ℕ). drop n e.kinds) h
-steps-there e (s ∷ ss) i j h = first s h.0 ∙ ap (λ (r : List ℕ). stepKinds s ++ r) (steps-there e ss (i + rawOf s) j h.1) ∙ sym (append_assoc (stepKinds s) (stepsKinds ss) (drop j e.kinds))
+steps-there e (s ∷ ss) i j h = first s h.0 ∙ ap (λ (r : List ℕ). step_kinds s ++ r) (steps-there e ss (i + raw_of s) j h.1) ∙ sym (append_assoc (step_kinds s) (steps_kinds ss) (drop j e.kinds))
   where
     stays : drop i e.kinds ≡ drop (i + 0) e.kinds
     stays = let z : i + 0 ≡ i = omega arith in rw z
 
-    first : (s : Step) → SaysAt e i s → drop i e.kinds ≡ stepKinds s ++ drop (i + rawOf s) e.kinds
+    first : (s : Step) → SaysAt e i s → drop i e.kinds ≡ step_kinds s ++ drop (i + raw_of s) e.kinds
     first (enter k) t = stays
     first leave t = stays
     first (taken k n) t = step-there e i k n t
@@ -102,5 +102,5 @@ steps-there e (s ∷ ss) i j h = first s h.0 ∙ ap (λ (r : List ℕ). stepKind
     first (wanted k f) t = stays
 
 -- steps that cover all have all kinds
-pub all_there : (e : Env) (ss : List Step) → CoverSteps e 0 ss (length e.kinds) → stepsKinds ss ≡ e.kinds
-all_there e ss h = sym (steps-there e ss 0 (length e.kinds) h ∙ ap (λ (r : List ℕ). stepsKinds ss ++ r) (drop_of_length-le e.kinds {i = length e.kinds} (omega arith)) ∙ append-nil (stepsKinds ss))
+pub all_there : (e : Env) (ss : List Step) → CoverSteps e 0 ss (length e.kinds) → steps_kinds ss ≡ e.kinds
+all_there e ss h = sym (steps-there e ss 0 (length e.kinds) h ∙ ap (λ (r : List ℕ). steps_kinds ss ++ r) (drop_of_length-le e.kinds {i = length e.kinds} (omega arith)) ∙ append-nil (steps_kinds ss))

@@ -8,29 +8,29 @@ use lib.Dec.{ltb}
 use borrow.Author.Tests.{ltb-true, ltb-false}
 use Rattle.records.specs.declared.Step.{Step}
 use Rattle.records.specs.declared.Step.TheVariants.{Enter as enter, Leave as leave, Token as taken, Error as failed, Expected as wanted}
-use Rattle.promises.specs.Promised.{rawOf, rawSum}
-use Rattle.fromtext.specs.FromText.{rawTo, InStep, StepOnce}
+use Rattle.promises.specs.Promised.{raw_of, raw_sum}
+use Rattle.fromtext.specs.FromText.{raw_to, InStep, StepOnce}
 
 -- a step that stands for tokens is a token step
-token-step : (s : Step) → 0 < rawOf s → (k : ℕ) × (s ≡ taken k (rawOf s))
+token-step : (s : Step) → 0 < raw_of s → (k : ℕ) × (s ≡ taken k (raw_of s))
 token-step (enter k) h = absurd (omega arith)
 token-step leave h = absurd (omega arith)
 token-step (taken k n) h = (k, refl)
 token-step (failed c a) h = absurd (omega arith)
 token-step (wanted k f) h = absurd (omega arith)
 
-pub steps-once : (ss : List Step) (t : ℕ) → t < rawSum ss → StepOnce ss t
-unfolding rawTo rawSum
+pub steps-once : (ss : List Step) (t : ℕ) → t < raw_sum ss → StepOnce ss t
+unfolding raw_to raw_sum
 steps-once [] t h = absurd (omega arith)
-steps-once (s ∷ ss) t h = by (ltb t (rawOf s)) refl (λ l. steps-once ss (t - rawOf s) (omega (arith, h, l)))
+steps-once (s ∷ ss) t h = by (ltb t (raw_of s)) refl (λ l. steps-once ss (t - raw_of s) (omega (arith, h, l)))
   where
-    by : (x : Bool) → ltb t (rawOf s) ≡ x → (rawOf s ≤ t → StepOnce ss (t - rawOf s)) → StepOnce (s ∷ ss) t
-    by true e f = record { number = 0; in-it = record { kind = own.0; raw = rawOf s; is = own.1; begun = omega arith; unended = omega (arith, l) }; only = only }
+    by : (x : Bool) → ltb t (raw_of s) ≡ x → (raw_of s ≤ t → StepOnce ss (t - raw_of s)) → StepOnce (s ∷ ss) t
+    by true e f = record { number = 0; in-it = record { kind = own.0; raw = raw_of s; is = own.1; begun = omega arith; unended = omega (arith, l) }; only = only }
       where
-        l : t < rawOf s
-        l = ltb-true t (rawOf s) e
+        l : t < raw_of s
+        l = ltb-true t (raw_of s) e
 
-        own : (k : ℕ) × (s ≡ taken k (rawOf s))
+        own : (k : ℕ) × (s ≡ taken k (raw_of s))
         own = token-step s (omega (arith, l))
 
         only : (j : ℕ) → InStep (s ∷ ss) j t → j ≡ 0
@@ -43,12 +43,12 @@ steps-once (s ∷ ss) t h = by (ltb t (rawOf s)) refl (λ l. steps-once ss (t - 
           only = only;
         }
       where
-        l : rawOf s ≤ t
-        l = ltb-false t (rawOf s) e
+        l : raw_of s ≤ t
+        l = ltb-false t (raw_of s) e
 
-        more : StepOnce ss (t - rawOf s)
+        more : StepOnce ss (t - raw_of s)
         more = f l
 
         only : (j : ℕ) → InStep (s ∷ ss) j t → j ≡ suc more.number
-        only zero i = absurd (omega (arith, l, i.unended, ap rawOf i.is))
+        only zero i = absurd (omega (arith, l, i.unended, ap raw_of i.is))
         only (suc j) i = ap suc (more.only j (record { kind = i.kind; raw = i.raw; is = i.is; begun = omega (arith, l, i.begun); unended = omega (arith, l, i.unended) }))

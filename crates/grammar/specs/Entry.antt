@@ -15,27 +15,27 @@ use Rattle.grammar.specs.Items as I
 
 -- what expressions.rs calls of the files after it
 abbrev pub later : Counted → E.Later
-later deeper = record { atomExpr = A.atomExpr deeper; argListGateCallQubits = P.argListGateCallQubits deeper; optItem = I.optItem deeper }
+later deeper = record { atom_expr = A.atom_expr deeper; arg_list_gate_call_qubits = P.arg_list_gate_call_qubits deeper; opt_item = I.opt_item deeper }
 
 -- With n counted calls to spare. None: the call is refused with 6, before anything else of it happens.
 unfoldable pub counted : Table → ℕ → Counted
 counted ops zero =
     record {
-      exprBp = λ m prefer bp. (stop Deep >> done Nothing);
+      expr_bp = λ m prefer bp. (stop Deep >> done Nothing);
       stmt = stop Deep;
-      typeSpec = stop Deep;
-      complexTypeSpec = stop Deep;
-      ifStmt = λ m. stop Deep;
-      expressionList = stop Deep;
+      type_spec = stop Deep;
+      complex_type_spec = stop Deep;
+      if_stmt = λ m. stop Deep;
+      expression_list = stop Deep;
     }
 counted ops (suc n) =
     record {
-      exprBp = E.exprBp (counted ops n) (later (counted ops n)) ops;
+      expr_bp = E.expr_bp (counted ops n) (later (counted ops n)) ops;
       stmt = E.stmt (counted ops n) (later (counted ops n));
-      typeSpec = E.typeSpec (counted ops n);
-      complexTypeSpec = E.complexTypeSpec (counted ops n);
-      ifStmt = I.ifStmt (counted ops n);
-      expressionList = P.expressionList (counted ops n);
+      type_spec = E.type_spec (counted ops n);
+      complex_type_spec = E.complex_type_spec (counted ops n);
+      if_stmt = I.if_stmt (counted ops n);
+      expression_list = P.expression_list (counted ops n);
     }
 
 -- at most 64 counted calls are unfinished
@@ -45,16 +45,16 @@ deepest = 64
 -- fn source_file, line 57
 -- runs: source ``, source `;`
 -- breaks: source `}`
-unfoldable pub sourceFile : Table → Acts (Unit {0})
-sourceFile ops = do
+unfoldable pub source_file : Table → Acts (Unit {0})
+source_file ops = do
   m ← start
-  I.sourceFileContents (counted ops deepest) false
+  I.source_file_contents (counted ops deepest) false
   just (complete m SOURCE-FILE)
 
 -- one call of `item`
-unfoldable pub oneItem : Table → Acts (Unit {0})
-oneItem ops = I.item (counted ops deepest) false
+unfoldable pub one_item : Table → Acts (Unit {0})
+one_item ops = I.item (counted ops deepest) false
 
 -- one call of `expr_bp`
-unfoldable pub oneExpression : Table → Acts (Unit {0})
-oneExpression ops = just ((counted ops deepest).exprBp Fresh false 1)
+unfoldable pub one_expression : Table → Acts (Unit {0})
+one_expression ops = just ((counted ops deepest).expr_bp Fresh false 1)

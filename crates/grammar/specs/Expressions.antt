@@ -5,30 +5,30 @@ use Rattle.kinds.specs.Kinds.{SEMICOLON, COMMA, COLON, EQ, L-PAREN, R-PAREN, L-B
 use Rattle.kinds.specs.Sets.{EXPR-FIRST, EXPR-RECOVERY-SET, CLASSICAL-TYPES, TYPES, QUBIT-FIRST, PREFIX-OPS, CAST-NEXT, ASSIGNABLE, UNINDEXED, ARRAY-BASES, NO-INTEGERS}
 use Rattle.kinds.specs.Messages.{EXPECTING-COLON-IN-RANGE-EXPRESSION, STMT-EXPECTED-EXPRESSION-TYPE-DECLARATION-OR-LET, EXPECTING-SEMICOLON-TERMINATING-STATEMENT, EXPR-BP-EXPECTED-EXPRESSION, ASSIGNMENT-STATEMENT-FOUND-WHERE-EXPRESSION-EXPECTED, ILLEGAL-LHS-IN-ASSIGNMENT, INDEXING-INTO-LITERAL-IS-NOT-ALLOWED, EXPECTED-TYPE-NAME, ILLEGAL-BASE-TYPE-FOR-ARRAY, EXPECTING-FLOAT-IN-COMPLEX-DESIGNATOR, FOUND-DESIGNATOR-IN-HARDWARE-QUBIT-DECLARATION, LITERAL-TYPE-DESIGNATOR-MUST-BE-AN-INTEGER, EXPECTING-PARAMETER-NAME}
 use Rattle.runtime.specs.declared.parser.Completed.{Completed}
-use Rattle.runtime.specs.Acts.{Acts, Acts.done, ◌>>=◌, ◌>>◌, at, atTs, nth, current, eat, bump, bumpAny, expect, must, start, complete, abandon, precede, extendTo, errRecover, errAndBump, is_refused, goesOn, Turn, Turn.more, Turn.last, repeats}
+use Rattle.runtime.specs.Acts.{Acts, Acts.done, ◌>>=◌, ◌>>◌, at, at_ts, nth, current, eat, bump, bump_any, expect, must, start, complete, abandon, precede, extend_to, err_recover, err_and_bump, is_refused, goes_on, Turn, Turn.more, Turn.last, repeats}
 use Rattle.grammar.specs.declared.Mark.{Mark}
 use Rattle.grammar.specs.declared.Mark.TheVariants.{Given, Fresh}
 use Rattle.grammar.specs.declared.Offer.{Offer}
 use Rattle.grammar.specs.declared.Offer.TheVariants.{Taken, Back}
 use Rattle.grammar.specs.declared.Got.{Got}
 use Rattle.grammar.specs.declared.Got.TheVariants.{Is, Nothing}
-use Rattle.grammar.specs.Grammar.{Counted, when, just, fail, failIfAt, failUnlessAt, delimited}
-use Rattle.operators.specs.Operators.{Table, currentOp}
+use Rattle.grammar.specs.Grammar.{Counted, when, just, fail, fail_if_at, fail_unless_at, delimited}
+use Rattle.operators.specs.Operators.{Table, current_op}
 
 -- What this file calls of the files that come after it here: modules do not use one another in a circle.
 pub record Later : Type 0 where
   -- atom.rs, fn atom_expr
-  pub atomExpr : Acts Got
+  pub atom_expr : Acts Got
   -- params.rs, fn arg_list_gate_call_qubits
-  pub argListGateCallQubits : Acts (Unit {0})
+  pub arg_list_gate_call_qubits : Acts (Unit {0})
   -- items.rs, fn opt_item: whether there was an item
-  pub optItem : ℕ → Acts Offer
+  pub opt_item : ℕ → Acts Offer
 
 -- fn type_name, line 367
 -- runs: item `int`
 -- breaks: item `input`, item `input a`
-unfoldable pub typeName : Acts (Unit {0})
-typeName = do
+unfoldable pub type_name : Acts (Unit {0})
+type_name = do
   k ← current
   cond (one_of TYPES k) (do
     k ← current
@@ -40,9 +40,9 @@ marker (Given m) = done m
 marker Fresh = start
 
 -- the first test of fn expr_bp, line 228: `p.nth(1)` is looked up only at a classical type that begins no expression
-unfoldable pub lacksExpr : Acts Bool
-lacksExpr = do
-  first ← atTs EXPR-FIRST
+unfoldable pub lacks_expr : Acts Bool
+lacks_expr = do
+  first ← at_ts EXPR-FIRST
   cond first (done false) (do
     k ← current
     cond (one_of CLASSICAL-TYPES k) (do
@@ -53,22 +53,22 @@ lacksExpr = do
 unfoldable pub assigned : Bool → Acts (Unit {0})
 assigned prefer = when prefer (just (expect SEMICOLON))
 
-unfoldable pub noAssignment : Bool → Acts (Unit {0})
-noAssignment prefer = when (not prefer) (fail ASSIGNMENT-STATEMENT-FOUND-WHERE-EXPRESSION-EXPECTED)
+unfoldable pub no_assignment : Bool → Acts (Unit {0})
+no_assignment prefer = when (not prefer) (fail ASSIGNMENT-STATEMENT-FOUND-WHERE-EXPRESSION-EXPECTED)
 
-unfoldable pub closeOp : Bool → ℕ → ℕ → ℕ → Acts Completed
-closeOp prefer lhsKind op m =
+unfoldable pub close_op : Bool → ℕ → ℕ → ℕ → Acts Completed
+close_op prefer lhs_kind op m =
     cond (eqb op EQ) (do
-      noAssignment prefer
-      cond (one_of ASSIGNABLE lhsKind) (do
+      no_assignment prefer
+      cond (one_of ASSIGNABLE lhs_kind) (do
         assigned prefer
         complete m ASSIGNMENT-STMT) (do
           fail ILLEGAL-LHS-IN-ASSIGNMENT
           complete m BIN-EXPR)) (complete m BIN-EXPR)
 
 -- the test of fn stmt, line 97, which asks in another order: whether a cast begins here, then whether an expression does
-unfoldable pub castAhead : Acts Bool
-castAhead = do
+unfoldable pub cast_ahead : Acts Bool
+cast_ahead = do
   k ← current
   cond (one_of CLASSICAL-TYPES k) (do
     k ← nth 1
@@ -84,34 +84,34 @@ neither a b = do
     y ← b
     done (not y))
 
-unfoldable pub stmtLacksExpr : Acts Bool
-stmtLacksExpr = neither castAhead (atTs EXPR-FIRST)
+unfoldable pub stmt_lacks_expr : Acts Bool
+stmt_lacks_expr = neither cast_ahead (at_ts EXPR-FIRST)
 
 -- the end of fn stmt, line 105
-unfoldable pub noSemicolon : Bool → Bool → Acts (Unit {0})
-noSemicolon block semi = when (not block && not semi) (fail EXPECTING-SEMICOLON-TERMINATING-STATEMENT)
+unfoldable pub no_semicolon : Bool → Bool → Acts (Unit {0})
+no_semicolon block semi = when (not block && not semi) (fail EXPECTING-SEMICOLON-TERMINATING-STATEMENT)
 
-unfoldable pub stmtEnd : Completed → Bool → Acts (Unit {0})
-stmtEnd cm block =
+unfoldable pub stmt_end : Completed → Bool → Acts (Unit {0})
+stmt_end cm block =
     cond (eqb cm.kind ASSIGNMENT-STMT) (done tt) (do
       b ← at R-CURLY
       cond b (done tt) (do
         m ← precede cm
         semi ← eat SEMICOLON
-        noSemicolon block semi
+        no_semicolon block semi
         just (complete m EXPR-STMT)))
 
 -- the test of fn designator, line 471
-unfoldable pub literalDesignator : Acts (Unit {0})
-literalDesignator = do
+unfoldable pub literal_designator : Acts (Unit {0})
+literal_designator = do
   k ← current
   cond (one_of NO-INTEGERS k) (do
     k ← nth 1
     when (eqb k R-BRACK) (fail LITERAL-TYPE-DESIGNATOR-MUST-BE-AN-INTEGER)) (done tt)
 
 -- the test of fn array_type_spec, line 391
-unfoldable pub arrayBase : Acts (Unit {0})
-arrayBase = do
+unfoldable pub array_base : Acts (Unit {0})
+array_base = do
   k ← current
   when (not (one_of ARRAY-BASES k)) (fail ILLEGAL-BASE-TYPE-FOR-ARRAY)
 
@@ -120,8 +120,8 @@ unfoldable pub unindexed : ℕ → Acts (Unit {0})
 unindexed k = when (one_of UNINDEXED k) (fail INDEXING-INTO-LITERAL-IS-NOT-ALLOWED)
 
 -- the end of fn call_arg_list, line 554
-unfoldable pub argsEnd : ℕ → ℕ → Acts (Unit {0})
-argsEnd m m1 = do
+unfoldable pub args_end : ℕ → ℕ → Acts (Unit {0})
+args_end m m1 = do
   expect R-PAREN
   complete m1 EXPRESSION-LIST
   just (complete m ARG-LIST)
@@ -129,11 +129,11 @@ argsEnd m m1 = do
 -- fn var_name, line 484
 -- runs: item `int a`
 -- breaks: item `int`, item `int 3`
-unfoldable pub varName : Acts (Unit {0})
-varName = do
+unfoldable pub var_name : Acts (Unit {0})
+var_name = do
   m ← start
   b ← at IDENT
-  cond b bumpAny (fail EXPECTING-PARAMETER-NAME)
+  cond b bump_any (fail EXPECTING-PARAMETER-NAME)
   just (complete m NAME)
 
 module _ (deeper : Counted) where
@@ -141,56 +141,56 @@ module _ (deeper : Counted) where
   -- runs: expr `a`
   -- breaks: expr ``, expr `-`
   abbrev pub expr : Acts Got
-  expr = deeper.exprBp Fresh false 1
+  expr = deeper.expr_bp Fresh false 1
 
   -- fn range_expr, line 20: no caller reads its answer
   -- runs: item `for i [a:b]`, item `for int i in [0:2:4];`
   -- breaks: item `for i [a]`, item `for i [a:b`, item `for i []`
-  unfoldable pub rangeExpr : Acts (Unit {0})
-  rangeExpr = do
+  unfoldable pub range_expr : Acts (Unit {0})
+  range_expr = do
     m ← start
     must L-BRACK
     bump L-BRACK
-    deeper.exprBp Fresh false 1
+    deeper.expr_bp Fresh false 1
     b ← at COLON
     cond b (do
       bump COLON
-      deeper.exprBp Fresh false 1
+      deeper.expr_bp Fresh false 1
       b ← at COLON
       when b (do
         bump COLON
-        just (deeper.exprBp Fresh false 1))) (fail EXPECTING-COLON-IN-RANGE-EXPRESSION)
+        just (deeper.expr_bp Fresh false 1))) (fail EXPECTING-COLON-IN-RANGE-EXPRESSION)
     expect R-BRACK
     just (complete m RANGE-EXPR)
 
   -- fn expr_or_range_expr, line 40: no caller reads its answer
   -- runs: expr `a[1`, expr `a[1:b:c]`
   -- breaks: expr `a[1:`, expr `a[-`
-  unfoldable pub exprOrRangeExpr : Acts (Unit {0})
-  exprOrRangeExpr = do
+  unfoldable pub expr_or_range_expr : Acts (Unit {0})
+  expr_or_range_expr = do
     m ← start
-    deeper.exprBp Fresh false 1
+    deeper.expr_bp Fresh false 1
     b ← at COLON
     cond b (do
       bump COLON
-      deeper.exprBp Fresh false 1
+      deeper.expr_bp Fresh false 1
       b ← at COLON
       when b (do
         bump COLON
-        just (deeper.exprBp Fresh false 1))
+        just (deeper.expr_bp Fresh false 1))
       just (complete m RANGE-EXPR)) (abandon m)
 
   -- fn expr_stmt, line 58
   -- runs: item `a`
   -- breaks: item `-`, item `a = ;`
-  abbrev pub exprStmt : Mark → Acts Got
-  exprStmt m = deeper.exprBp m true 1
+  abbrev pub expr_stmt : Mark → Acts Got
+  expr_stmt m = deeper.expr_bp m true 1
 
   -- fn let_stmt, line 125
   -- runs: expr `{let a = b;`
   -- breaks: expr `{let`, expr `{let a = b`, expr `{let $0 = b;`
-  unfoldable pub letStmt : ℕ → Acts (Unit {0})
-  letStmt m = do
+  unfoldable pub let_stmt : ℕ → Acts (Unit {0})
+  let_stmt m = do
     bump LET-KW
     expect IDENT
     expect EQ
@@ -201,15 +201,15 @@ module _ (deeper : Counted) where
   -- fn expr_block_contents, line 139: a round of its loop, and the whole
   -- runs: item `;`, expr `{}`
   -- breaks: item `)`, item `a`
-  unfoldable pub exprBlockContentsRound : Unit {0} → Acts (Turn (Unit {0}))
-  exprBlockContentsRound x = do
-    go ← goesOn R-CURLY
+  unfoldable pub expr_block_contents_round : Unit {0} → Acts (Turn (Unit {0}))
+  expr_block_contents_round x = do
+    go ← goes_on R-CURLY
     cond go (do
       deeper.stmt
       done (more tt)) (done (last tt))
 
-  unfoldable pub exprBlockContents : Acts (Unit {0})
-  exprBlockContents = repeats exprBlockContentsRound tt
+  unfoldable pub expr_block_contents : Acts (Unit {0})
+  expr_block_contents = repeats expr_block_contents_round tt
 
   -- fn designator, line 458
   -- runs: item `int[1]`
@@ -219,7 +219,7 @@ module _ (deeper : Counted) where
     must L-BRACK
     m ← start
     bump L-BRACK
-    literalDesignator
+    literal_designator
     expr
     expect R-BRACK
     just (complete m DESIGNATOR)
@@ -227,12 +227,12 @@ module _ (deeper : Counted) where
   -- fn non_array_type_spec, line 414
   -- runs: item `int`, item `int[1]`
   -- breaks: item `input`, item `int[`
-  unfoldable pub nonArrayTypeSpec : Acts (Unit {0})
-  nonArrayTypeSpec = do
+  unfoldable pub non_array_type_spec : Acts (Unit {0})
+  non_array_type_spec = do
     b ← at COMPLEX-TY
-    cond b deeper.complexTypeSpec (do
+    cond b deeper.complex_type_spec (do
       m ← start
-      typeName
+      type_name
       b ← at L-BRACK
       when b designator
       just (complete m SCALAR-TYPE))
@@ -241,169 +241,169 @@ module _ (deeper : Counted) where
   -- the last token.
   -- runs: item `array[int, 2]`, item `array[float[64], 2, 3]`
   -- breaks: item `array`, item `array[int,`, item `array[bit]`
-  unfoldable pub arrayTypeSpecRound : Unit {0} → Acts (Turn (Unit {0}))
-  arrayTypeSpecRound x = do
+  unfoldable pub array_type_spec_round : Unit {0} → Acts (Turn (Unit {0}))
+  array_type_spec_round x = do
     expr
     b ← at R-BRACK
     cond b (do
-      bumpAny
+      bump_any
       done (last tt)) (do
         expect COMMA
         over ← is_refused
         cond over (done (last tt)) (done (more tt)))
 
-  unfoldable pub arrayTypeSpec : Acts (Unit {0})
-  arrayTypeSpec = do
+  unfoldable pub array_type_spec : Acts (Unit {0})
+  array_type_spec = do
     must ARRAY-KW
     m ← start
-    bumpAny
+    bump_any
     expect L-BRACK
-    arrayBase
-    deeper.typeSpec
+    array_base
+    deeper.type_spec
     expect COMMA
-    repeats arrayTypeSpecRound tt
+    repeats array_type_spec_round tt
     just (complete m ARRAY-TYPE)
 
   -- fn type_spec, line 378
   -- runs: item `int`
   -- breaks: item `input`, item `array`
-  unfoldable pub typeSpec : Acts (Unit {0})
-  typeSpec = do
+  unfoldable pub type_spec : Acts (Unit {0})
+  type_spec = do
     b ← at ARRAY-KW
-    cond b arrayTypeSpec nonArrayTypeSpec
+    cond b array_type_spec non_array_type_spec
 
   -- fn complex_type_spec, line 428
   -- runs: item `complex`, item `complex[float[64]]`
   -- breaks: item `complex[int]`, item `complex[float`
-  unfoldable pub complexTypeSpec : Acts (Unit {0})
-  complexTypeSpec = do
+  unfoldable pub complex_type_spec : Acts (Unit {0})
+  complex_type_spec = do
     must COMPLEX-TY
     m ← start
-    bumpAny
+    bump_any
     b ← at L-BRACK
     when b (do
       bump L-BRACK
-      failUnlessAt FLOAT-TY EXPECTING-FLOAT-IN-COMPLEX-DESIGNATOR
-      nonArrayTypeSpec
+      fail_unless_at FLOAT-TY EXPECTING-FLOAT-IN-COMPLEX-DESIGNATOR
+      non_array_type_spec
       just (expect R-BRACK))
     just (complete m SCALAR-TYPE)
 
   -- fn qubit_type_spec, line 444
   -- runs: item `qubit`, item `qubit[2]`
   -- breaks: item `qubit[`, item `qubit[2] $0`
-  unfoldable pub qubitTypeSpec : Acts (Unit {0})
-  qubitTypeSpec = do
+  unfoldable pub qubit_type_spec : Acts (Unit {0})
+  qubit_type_spec = do
     must QUBIT-KW
     m ← start
-    typeName
+    type_name
     b ← at L-BRACK
     when b (do
       designator
-      failIfAt HARDWAREIDENT FOUND-DESIGNATOR-IN-HARDWARE-QUBIT-DECLARATION)
+      fail_if_at HARDWAREIDENT FOUND-DESIGNATOR-IN-HARDWARE-QUBIT-DECLARATION)
     just (complete m QUBIT-TYPE)
 
   -- fn set_expression, line 513
   -- runs: item `for {1}`, expr `a[{1, 2}]`
   -- breaks: item `for {`, expr `a[{1`, item `for {}`
-  unfoldable pub setExpression : Acts (Unit {0})
-  setExpression = do
+  unfoldable pub set_expression : Acts (Unit {0})
+  set_expression = do
     must L-CURLY
     m ← start
     bump L-CURLY
-    deeper.expressionList
+    deeper.expression_list
     bump R-CURLY
     just (complete m SET-EXPRESSION)
 
   -- fn index_operator, line 522
   -- runs: expr `a[1]`, expr `a[{1}]`
   -- breaks: expr `a[`, expr `a[1`
-  unfoldable pub indexOperator : Acts (Unit {0})
-  indexOperator = do
+  unfoldable pub index_operator : Acts (Unit {0})
+  index_operator = do
     must L-BRACK
     m ← start
     expect L-BRACK
     b ← at L-CURLY
-    cond b setExpression deeper.expressionList
+    cond b set_expression deeper.expression_list
     expect R-BRACK
     just (complete m INDEX-OPERATOR)
 
   -- fn index_expr, line 497
   -- runs: expr `1[1]`, expr `f()[1]`
   -- breaks: expr `1[`, expr `1[1`
-  unfoldable pub indexExpr : Completed → Acts Completed
-  indexExpr lhs = do
+  unfoldable pub index_expr : Completed → Acts Completed
+  index_expr lhs = do
     must L-BRACK
     m ← precede lhs
-    indexOperator
+    index_operator
     complete m INDEX-EXPR
 
   -- fn indexed_identifier, line 504: a round of its loop, and the whole. Its `&& !p.at(EOF)` decides nothing: where `[` stands the
   -- tokens have not ended.
   -- runs: expr `a[1]`, expr `a[1][2]`
   -- breaks: expr `a[`, expr `a[1][`, expr `a[{`
-  unfoldable pub indexedIdentifierRound : Unit {0} → Acts (Turn (Unit {0}))
-  indexedIdentifierRound x = do
+  unfoldable pub indexed_identifier_round : Unit {0} → Acts (Turn (Unit {0}))
+  indexed_identifier_round x = do
     b ← at L-BRACK
     cond b (do
-      indexOperator
+      index_operator
       done (more tt)) (done (last tt))
 
-  unfoldable pub indexedIdentifier : Completed → Acts Completed
-  indexedIdentifier lhs = do
+  unfoldable pub indexed_identifier : Completed → Acts Completed
+  indexed_identifier lhs = do
     must L-BRACK
     m ← precede lhs
-    repeats indexedIdentifierRound tt
+    repeats indexed_identifier_round tt
     complete m INDEXED-IDENTIFIER
 
   -- the arm of fn postfix_expr, line 333, at `[`
   unfoldable pub indexed : Completed → Acts Completed
   indexed lhs =
-      cond (eqb lhs.kind IDENTIFIER) (indexedIdentifier lhs) (do
+      cond (eqb lhs.kind IDENTIFIER) (indexed_identifier lhs) (do
         unindexed lhs.kind
-        indexExpr lhs)
+        index_expr lhs)
 
   -- fn call_arg_list, line 537
   -- runs: expr `a()`, expr `a(b, 1)`
   -- breaks: expr `a(`, expr `a(1`, expr `a(1 2)`
-  unfoldable pub callArgList : Acts (Unit {0})
-  callArgList = do
+  unfoldable pub call_arg_list : Acts (Unit {0})
+  call_arg_list = do
     must L-PAREN
     m ← start
     m1 ← start
     bump L-PAREN
     delimited L-PAREN R-PAREN false COMMA EXPR-FIRST expr
-    argsEnd m m1
+    args_end m m1
 
   module _ (later : Later) where
     -- fn call_expr, line 352
     -- runs: expr `a()`, expr `a() q`
     -- breaks: expr `a(`, expr `a() q r`
-    unfoldable pub callExpr : Completed → Acts Completed
-    callExpr lhs = do
+    unfoldable pub call_expr : Completed → Acts Completed
+    call_expr lhs = do
       must L-PAREN
       m ← precede lhs
-      callArgList
+      call_arg_list
       k ← current
       cond (one_of QUBIT-FIRST k) (do
-        later.argListGateCallQubits
+        later.arg_list_gate_call_qubits
         complete m GATE-CALL-EXPR) (complete m CALL-EXPR)
 
     -- fn postfix_expr, line 320: a round of its loop, which carries the expression so far, whether it is block-like and whether calls
     -- are allowed, as both its arms ask; and the whole
     -- runs: expr `a`, expr `a(b)[1]`
     -- breaks: expr `1[1]`, expr `1 ns[1]`, expr `$0[1]`
-    unfoldable pub postfixExprRound : Completed × Bool × Bool → Acts (Turn (Completed × Bool × Bool))
-    postfixExprRound x = do
+    unfoldable pub postfix_expr_round : Completed × Bool × Bool → Acts (Turn (Completed × Bool × Bool))
+    postfix_expr_round x = do
       k ← current
       cond x.2 (cond (eqb k L-PAREN) (do
-        cm ← callExpr x.0
+        cm ← call_expr x.0
         done (more (cm, false, true))) (cond (eqb k L-BRACK) (do
           cm ← indexed x.0
           done (more (cm, false, true))) (done (last x)))) (done (last x))
 
-    unfoldable pub postfixExpr : Completed → Bool → Bool → Acts Got
-    postfixExpr lhs blockLike allowCalls = do
-      x ← repeats postfixExprRound (lhs, blockLike, allowCalls)
+    unfoldable pub postfix_expr : Completed → Bool → Bool → Acts Got
+    postfix_expr lhs block_like allow_calls = do
+      x ← repeats postfix_expr_round (lhs, block_like, allow_calls)
       done (Is x.0 x.1)
 
     -- fn lhs, line 298
@@ -414,33 +414,33 @@ module _ (deeper : Counted) where
       k ← current
       cond (one_of PREFIX-OPS k) (do
         m ← start
-        bumpAny
-        deeper.exprBp Fresh prefer 255
+        bump_any
+        deeper.expr_bp Fresh prefer 255
         cm ← complete m PREFIX-EXPR
         done (Is cm false)) (do
-          g ← later.atomExpr
-          elim g [ Nothing ↦ done Nothing | Is cm block ↦ postfixExpr cm block (not (prefer && block)) ])
+          g ← later.atom_expr
+          elim g [ Nothing ↦ done Nothing | Is cm block ↦ postfix_expr cm block (not (prefer && block)) ])
 
     module _ (ops : Table) where
       -- fn expr_bp, line 218: a round of its loop, and the whole
       -- runs: expr `a`, expr `a + b * c`, item `a = b;`
       -- breaks: expr ``, expr `a = b`, item `a = b`, item `1 = 2`
-      unfoldable pub exprBpRound : Bool → ℕ → Completed → Acts (Turn Completed)
-      exprBpRound prefer bp lhs = do
-        o ← currentOp ops
+      unfoldable pub expr_bp_round : Bool → ℕ → Completed → Acts (Turn Completed)
+      expr_bp_round prefer bp lhs = do
+        o ← current_op ops
         cond (ltb o.power bp) (done (last lhs)) (do
           m ← precede lhs
           bump o.kind
-          deeper.exprBp Fresh false o.next
-          cm ← closeOp prefer lhs.kind o.kind m
+          deeper.expr_bp Fresh false o.next
+          cm ← close_op prefer lhs.kind o.kind m
           done (more cm))
 
-      unfoldable pub exprBp : Mark → Bool → ℕ → Acts Got
-      exprBp given prefer bp = do
+      unfoldable pub expr_bp : Mark → Bool → ℕ → Acts Got
+      expr_bp given prefer bp = do
         m ← marker given
-        lacks ← lacksExpr
+        lacks ← lacks_expr
         cond lacks (do
-          errRecover EXPR-BP-EXPECTED-EXPRESSION EXPR-RECOVERY-SET
+          err_recover EXPR-BP-EXPECTED-EXPRESSION EXPR-RECOVERY-SET
           abandon m
           done Nothing) (do
             g ← lhs prefer
@@ -449,9 +449,9 @@ module _ (deeper : Counted) where
                 abandon m
                 done Nothing)
               | Is cm block ↦ (do
-                cm ← extendTo cm m
+                cm ← extend_to cm m
                 cond (prefer && block) (done (Is cm true)) (do
-                  cm ← repeats (exprBpRound prefer bp) cm
+                  cm ← repeats (expr_bp_round prefer bp) cm
                   done (Is cm false)))
             ])
 
@@ -460,18 +460,18 @@ module _ (deeper : Counted) where
     no_item m = do
       b ← at PRAGMA
       cond b (do
-        bumpAny
+        bump_any
         just (complete m PRAGMA-STATEMENT)) (do
           b ← at ANNOTATION
           cond b (do
-            bumpAny
+            bump_any
             just (complete m ANNOTATION-STATEMENT)) (do
-              lacks ← stmtLacksExpr
+              lacks ← stmt_lacks_expr
               cond lacks (do
-                errAndBump STMT-EXPECTED-EXPRESSION-TYPE-DECLARATION-OR-LET
+                err_and_bump STMT-EXPECTED-EXPRESSION-TYPE-DECLARATION-OR-LET
                 abandon m) (do
-                  g ← exprStmt (Given m)
-                  elim g [ Nothing ↦ done tt | Is cm block ↦ stmtEnd cm block ])))
+                  g ← expr_stmt (Given m)
+                  elim g [ Nothing ↦ done tt | Is cm block ↦ stmt_end cm block ])))
 
     -- fn stmt, line 70
     -- runs: item `;`, item `a;`, item `PRAGMA ANNOTATION`
@@ -483,7 +483,7 @@ module _ (deeper : Counted) where
         b ← at LET-KW
         cond b (do
           m ← start
-          letStmt m) (do
+          let_stmt m) (do
             m ← start
-            offer ← later.optItem m
+            offer ← later.opt_item m
             elim offer [ Taken ↦ done tt | Back m ↦ no_item m ]))

@@ -5,7 +5,7 @@ use Rattle.kinds.specs.Membership.{one_of}
 use Rattle.kinds.specs.Kinds.{THIN-ARROW, IDENT, HARDWAREIDENT, HARDWARE-QUBIT, NAME, RETURN-SIGNATURE, BLOCK-EXPR}
 use Rattle.kinds.specs.Sets.{EMPTY, SCALAR-TYPES, TYPES}
 use Rattle.kinds.specs.Messages.{EXPECTED-SCALAR-RETURN-TYPE-AFTER-ARROW, EXPECTED-A-NAME}
-use Rattle.runtime.specs.Acts.{Acts, Acts.done, ◌>>=◌, ◌>>◌, at, atTs, current, bump, expect, start, complete, abandon, error, errorExpected, errRecover, goesOn, Turn, Turn.more, Turn.last, repeats}
+use Rattle.runtime.specs.Acts.{Acts, Acts.done, ◌>>=◌, ◌>>◌, at, at_ts, current, bump, expect, start, complete, abandon, error, error_expected, err_recover, goes_on, Turn, Turn.more, Turn.last, repeats}
 use Rattle.grammar.specs.declared.Mark.{Mark}
 use Rattle.grammar.specs.declared.Got.{Got}
 use Rattle.grammar.specs.declared.Got.TheVariants.{Is, Nothing}
@@ -13,12 +13,12 @@ use Rattle.grammar.specs.declared.Got.TheVariants.{Is, Nothing}
 -- The calls that count against the depth (docs/COUNTED.md), as the rest of the grammar may make them: what each does with one call
 -- less to spare.
 pub record Counted : Type 0 where
-  pub exprBp : Mark → Bool → ℕ → Acts Got
+  pub expr_bp : Mark → Bool → ℕ → Acts Got
   pub stmt : Acts (Unit {0})
-  pub typeSpec : Acts (Unit {0})
-  pub complexTypeSpec : Acts (Unit {0})
-  pub ifStmt : ℕ → Acts (Unit {0})
-  pub expressionList : Acts (Unit {0})
+  pub type_spec : Acts (Unit {0})
+  pub complex_type_spec : Acts (Unit {0})
+  pub if_stmt : ℕ → Acts (Unit {0})
+  pub expression_list : Acts (Unit {0})
 
 -- `if c { m }`
 abbrev pub when : Bool → Acts (Unit {0}) → Acts (Unit {0})
@@ -46,21 +46,21 @@ abbrev pub fail : ℕ → Acts (Unit {0})
 fail code = error code 0
 
 -- `if p.at(k) { p.error(..) }` and `if !p.at(k) { p.error(..) }`
-unfoldable pub failIfAt : ℕ → ℕ → Acts (Unit {0})
-failIfAt k code = do
+unfoldable pub fail_if_at : ℕ → ℕ → Acts (Unit {0})
+fail_if_at k code = do
   b ← at k
   when b (fail code)
 
-unfoldable pub failUnlessAt : ℕ → ℕ → Acts (Unit {0})
-failUnlessAt k code = do
+unfoldable pub fail_unless_at : ℕ → ℕ → Acts (Unit {0})
+fail_unless_at k code = do
   b ← at k
   when (not b) (fail code)
 
 -- fn is_blocklike, line 91
 -- runs: expr `a`
 -- breaks: never
-abbrev pub isBlocklike : ℕ → Bool
-isBlocklike k = eqb k BLOCK-EXPR
+abbrev pub is_blocklike : ℕ → Bool
+is_blocklike k = eqb k BLOCK-EXPR
 
 -- fn name_r, line 130
 -- runs: item `gate g`, item `gate $0`
@@ -76,7 +76,7 @@ name_r recovery = do
       cond b (do
         m ← start
         bump IDENT
-        just (complete m NAME)) (errRecover EXPECTED-A-NAME recovery))
+        just (complete m NAME)) (err_recover EXPECTED-A-NAME recovery))
 
 -- fn name, line 150
 -- runs: item `for i`
@@ -86,7 +86,7 @@ name = name_r EMPTY
 
 -- fn delimited, line 156: after an element, whether another one is to follow; a round of its loop; and the whole. The loop's two
 -- tests, `!p.at(ket)` before `!p.at(EOF)`, change nothing and cost no lookup, so the run is the same in either order: here it is that of every other
--- loop, `goesOn`.
+-- loop, `goes_on`.
 -- runs: expr `a(`, expr `a(b, 1)`
 -- breaks: expr `a(1 2)`, expr `a(;`
 unfoldable pub separator : ℕ → List ℕ → Acts Bool
@@ -95,9 +95,9 @@ separator delim first = do
   cond b (do
     bump delim
     done true) (do
-      b ← atTs first
+      b ← at_ts first
       cond b (do
-        errorExpected delim
+        error_expected delim
         done true) (done false))
 
 -- `.is_some()`
@@ -105,9 +105,9 @@ abbrev pub is_some : Got → Bool
 is_some (Is cm block) = true
 is_some Nothing = false
 
-unfoldable pub delimitedRound : ℕ → ℕ → List ℕ → Acts Got → Unit {0} → Acts (Turn (Unit {0}))
-delimitedRound ket delim first parser x = do
-  go ← goesOn ket
+unfoldable pub delimited_round : ℕ → ℕ → List ℕ → Acts Got → Unit {0} → Acts (Turn (Unit {0}))
+delimited_round ket delim first parser x = do
+  go ← goes_on ket
   cond go (do
     g ← parser
     cond (is_some g) (do
@@ -117,12 +117,12 @@ delimitedRound ket delim first parser x = do
 unfoldable pub delimited : ℕ → ℕ → Bool → ℕ → List ℕ → Acts Got → Acts (Unit {0})
 delimited bra ket consume delim first parser = do
   when consume (bump bra)
-  repeats (delimitedRound ket delim first parser) tt
+  repeats (delimited_round ket delim first parser) tt
   when consume (just (expect ket))
 
 -- the error of fn opt_ret_type, line 111, where no scalar type follows
-unfoldable pub scalarReturn : Acts (Unit {0})
-scalarReturn = do
+unfoldable pub scalar_return : Acts (Unit {0})
+scalar_return = do
   k ← current
   when (not (one_of SCALAR-TYPES k)) (fail EXPECTED-SCALAR-RETURN-TYPE-AFTER-ARROW)
 
@@ -130,14 +130,14 @@ module _ (deeper : Counted) where
   -- fn opt_ret_type, line 107: no caller reads its answer
   -- runs: item `def`, item `def f() -> bit[2] {}`
   -- breaks: item `def f -> a`, item `def f -> array[int, 2]`
-  unfoldable pub optRetType : Acts (Unit {0})
-  optRetType = do
+  unfoldable pub opt_ret_type : Acts (Unit {0})
+  opt_ret_type = do
     b ← at THIN-ARROW
     when b (do
       m ← start
       bump THIN-ARROW
-      scalarReturn
+      scalar_return
       k ← current
       cond (one_of TYPES k) (do
-        deeper.typeSpec
+        deeper.type_spec
         just (complete m RETURN-SIGNATURE)) (abandon m))

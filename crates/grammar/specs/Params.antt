@@ -6,20 +6,20 @@ use Rattle.kinds.specs.Sets.{PARAM-FIRST, TYPES}
 use Rattle.kinds.specs.Messages.{EXPECTED-VALUE-PARAMETER, EXPECTED-COMMA, EXPECTED-ONE-OR-MORE-PARAMETERS, EXPECTED-PARAMETER-NAME, EXPECTED-NAME-IN-QUBIT-ARGUMENT}
 use Rattle.input.specs.Input.{Env}
 use Rattle.runtime.specs.declared.parser.Parser.{Parser}
-use Rattle.runtime.specs.Acts.{sees, Acts, Acts.done, ◌>>=◌, ◌>>◌, at, atTs, current, bump, expect, start, complete, abandon, Turn, Turn.more, Turn.last, repeats}
+use Rattle.runtime.specs.Acts.{sees, Acts, Acts.done, ◌>>=◌, ◌>>◌, at, at_ts, current, bump, expect, start, complete, abandon, Turn, Turn.more, Turn.last, repeats}
 use Rattle.grammar.specs.declared.How.{How}
 use Rattle.grammar.specs.declared.How.TheVariants.{Expr, Qubit, Typed, Untyped}
 use Rattle.grammar.specs.declared.Shape.{Shape}
 use Rattle.grammar.specs.declared.DefFlavor.{DefFlavor}
 use Rattle.grammar.specs.declared.DefFlavor.TheVariants.{GateParams, GateQubits, GateCallQubits, DefParams, DefCalParams, DefCalQubits, ExpressionList}
 use Rattle.grammar.specs.Grammar.{Counted, when, just, fail}
-use Rattle.grammar.specs.Expressions.{exprOrRangeExpr, varName, indexedIdentifier}
+use Rattle.grammar.specs.Expressions.{expr_or_range_expr, var_name, indexed_identifier}
 
 -- fn param_untyped, line 172
 -- runs: item `gate g q`
 -- breaks: item `gate g 3`
-unfoldable pub paramUntyped : ℕ → Acts Bool
-paramUntyped m = do
+unfoldable pub param_untyped : ℕ → Acts Bool
+param_untyped m = do
   b ← at IDENT
   cond b (do
     bump IDENT
@@ -45,60 +45,60 @@ shape_of DefCalQubits = shape false L-CURLY THIN-ARROW false QUBIT-LIST Untyped
 shape_of ExpressionList = shape false R-BRACK R-BRACK true EXPRESSION-LIST Expr
 
 -- its start, line 51
-unfoldable pub listOpen : Shape → Acts ℕ
-listOpen sh = do
+unfoldable pub list_open : Shape → Acts ℕ
+list_open sh = do
   list ← start
   when sh.parens (bump L-PAREN)
   done list
 
 -- `list_end_tokens.iter().any(|x| p.at(*x))`
-unfoldable pub atListEnd : Shape → Acts Bool
-atListEnd sh = do
+unfoldable pub at_list_end : Shape → Acts Bool
+at_list_end sh = do
   b ← at sh.end
   cond b (done true) (at sh.end2)
 
 -- what that act tells
-abbrev pub endsHere : Env → Parser → Shape → Bool
-endsHere e p sh = cond (sees e p sh.end) true (sees e p sh.end2)
+abbrev pub ends_here : Env → Parser → Shape → Bool
+ends_here e p sh = cond (sees e p sh.end) true (sees e p sh.end2)
 
 -- the test of its loop, line 76, and what it tells
-unfoldable pub listGoes : Shape → Acts Bool
-listGoes sh = do
+unfoldable pub list_goes : Shape → Acts Bool
+list_goes sh = do
   end ← at EOF
   cond end (done false) (do
-    end ← atListEnd sh
+    end ← at_list_end sh
     done (not end))
 
-abbrev pub goesHere : Env → Parser → Shape → Bool
-goesHere e p sh = cond (sees e p EOF) false (not (endsHere e p sh))
+abbrev pub goes_here : Env → Parser → Shape → Bool
+goes_here e p sh = cond (sees e p EOF) false (not (ends_here e p sh))
 
 -- whether a parameter begins here, line 78
-unfoldable pub paramAhead : Acts Bool
-paramAhead = do
+unfoldable pub param_ahead : Acts Bool
+param_ahead = do
   k ← current
-  cond (one_of TYPES k) (done true) (atTs PARAM-FIRST)
+  cond (one_of TYPES k) (done true) (at_ts PARAM-FIRST)
 
 -- after a parameter, line 102: whether another one is to follow
-unfoldable pub listNext : Shape → Acts Bool
-listNext sh = do
-  end ← atListEnd sh
+unfoldable pub list_next : Shape → Acts Bool
+list_next sh = do
+  end ← at_list_end sh
   cond end (done false) (do
     b ← at COMMA
     cond b (do
       bump COMMA
       done true) (do
-        b ← atTs PARAM-FIRST
+        b ← at_ts PARAM-FIRST
         cond b (do
           fail EXPECTED-COMMA
           done true) (done false)))
 
 -- its end, line 118, after n parameters
-unfoldable pub listEmpty : Bool → ℕ → Acts (Unit {0})
-listEmpty one n = when (one && ltb n 1) (fail EXPECTED-ONE-OR-MORE-PARAMETERS)
+unfoldable pub list_empty : Bool → ℕ → Acts (Unit {0})
+list_empty one n = when (one && ltb n 1) (fail EXPECTED-ONE-OR-MORE-PARAMETERS)
 
-unfoldable pub listEnd : ℕ → Shape → ℕ → Acts (Unit {0})
-listEnd list sh n = do
-  listEmpty sh.one n
+unfoldable pub list_end : ℕ → Shape → ℕ → Acts (Unit {0})
+list_end list sh n = do
+  list_empty sh.one n
   when sh.parens (just (expect R-PAREN))
   just (complete list sh.node)
 
@@ -106,18 +106,18 @@ module _ (deeper : Counted) where
   -- fn param_typed, line 183
   -- runs: item `def f(int a`
   -- breaks: item `def f(a`, item `def f(int`, item `def f(3`
-  unfoldable pub paramTyped : ℕ → Acts Bool
-  paramTyped m = do
-    deeper.typeSpec
-    varName
+  unfoldable pub param_typed : ℕ → Acts Bool
+  param_typed m = do
+    deeper.type_spec
+    var_name
     complete m TYPED-PARAM
     done true
 
   -- fn arg_gate_call_qubit, line 191
   -- runs: item `reset q`, item `reset $0`, item `reset q[1]`
   -- breaks: item `barrier 3`, item `reset q[`
-  unfoldable pub argGateCallQubit : ℕ → Acts Bool
-  argGateCallQubit m = do
+  unfoldable pub arg_gate_call_qubit : ℕ → Acts Bool
+  arg_gate_call_qubit m = do
     b ← at HARDWAREIDENT
     cond b (do
       bump HARDWAREIDENT
@@ -128,84 +128,84 @@ module _ (deeper : Counted) where
           bump IDENT
           mcomp ← complete m IDENTIFIER
           b ← at L-BRACK
-          when b (just (indexedIdentifier deeper mcomp))
+          when b (just (indexed_identifier deeper mcomp))
           done true) (do
             fail EXPECTED-NAME-IN-QUBIT-ARGUMENT
             abandon m
             done false))
 
   -- one parameter of fn _param_list_openqasm, line 83: whether one was found
-  unfoldable pub foundParam : How → ℕ → Acts Bool
-  foundParam Expr m = do
+  unfoldable pub found_param : How → ℕ → Acts Bool
+  found_param Expr m = do
     abandon m
-    exprOrRangeExpr deeper
+    expr_or_range_expr deeper
     done true
-  foundParam Qubit m = argGateCallQubit m
-  foundParam Typed m = paramTyped m
-  foundParam Untyped m = paramUntyped m
+  found_param Qubit m = arg_gate_call_qubit m
+  found_param Typed m = param_typed m
+  found_param Untyped m = param_untyped m
 
   -- fn _param_list_openqasm, line 49: a round of its loop, which carries num_params, and the whole. Its marker m is always None.
   -- runs: item `gate`, item `gate g(a, b) q, r {}`
   -- breaks: item `gate g;`, item `gate g q r`, item `gate g(`
-  unfoldable pub paramListOpenqasmRound : Shape → ℕ → Acts (Turn ℕ)
-  paramListOpenqasmRound sh n = do
-    go ← listGoes sh
+  unfoldable pub param_list_openqasm_round : Shape → ℕ → Acts (Turn ℕ)
+  param_list_openqasm_round sh n = do
+    go ← list_goes sh
     cond go (do
       m ← start
-      first ← paramAhead
+      first ← param_ahead
       cond first (do
-        found ← foundParam sh.how m
+        found ← found_param sh.how m
         cond found (do
-          another ← listNext sh
+          another ← list_next sh
           cond another (done (more (n + 1))) (done (last (n + 1)))) (done (last n))) (do
             fail EXPECTED-VALUE-PARAMETER
             abandon m
             done (last n))) (done (last n))
 
-  unfoldable pub paramListOpenqasm : DefFlavor → Acts (Unit {0})
-  paramListOpenqasm flavor = do
-    list ← listOpen (shape_of flavor)
-    n ← repeats (paramListOpenqasmRound (shape_of flavor)) 0
-    listEnd list (shape_of flavor) n
+  unfoldable pub param_list_openqasm : DefFlavor → Acts (Unit {0})
+  param_list_openqasm flavor = do
+    list ← list_open (shape_of flavor)
+    n ← repeats (param_list_openqasm_round (shape_of flavor)) 0
+    list_end list (shape_of flavor) n
 
   -- fn param_list_gate_params, line 6
   -- runs: item `gate g(a)`
   -- breaks: item `gate g()`, item `gate g(a`, item `gate g(3)`
-  unfoldable pub paramListGateParams : Acts (Unit {0})
-  paramListGateParams = paramListOpenqasm GateParams
+  unfoldable pub param_list_gate_params : Acts (Unit {0})
+  param_list_gate_params = param_list_openqasm GateParams
 
   -- fn param_list_gate_qubits, line 9
   -- runs: item `gate`, item `gate g q, r {`
   -- breaks: item `gate g;`, item `gate g q r`
-  unfoldable pub paramListGateQubits : Acts (Unit {0})
-  paramListGateQubits = paramListOpenqasm GateQubits
+  unfoldable pub param_list_gate_qubits : Acts (Unit {0})
+  param_list_gate_qubits = param_list_openqasm GateQubits
 
   -- fn arg_list_gate_call_qubits, line 13
   -- runs: item `barrier`, item `barrier q, $1;`
   -- breaks: item `barrier )`, item `barrier q r`, item `barrier 3`
-  unfoldable pub argListGateCallQubits : Acts (Unit {0})
-  argListGateCallQubits = paramListOpenqasm GateCallQubits
+  unfoldable pub arg_list_gate_call_qubits : Acts (Unit {0})
+  arg_list_gate_call_qubits = param_list_openqasm GateCallQubits
 
   -- fn param_list_def_params, line 17
   -- runs: item `def f()`, item `def f(int a, bit b)`
   -- breaks: item `def f(`, item `def f(int a b)`, item `def f(3`
-  unfoldable pub paramListDefParams : Acts (Unit {0})
-  paramListDefParams = paramListOpenqasm DefParams
+  unfoldable pub param_list_def_params : Acts (Unit {0})
+  param_list_def_params = param_list_openqasm DefParams
 
   -- fn param_list_defcal_params, line 20
   -- runs: item `defcal f()`, item `defcal f(int a)`
   -- breaks: item `defcal f(`, item `defcal f(})`, item `defcal f($0`
-  unfoldable pub paramListDefcalParams : Acts (Unit {0})
-  paramListDefcalParams = paramListOpenqasm DefCalParams
+  unfoldable pub param_list_defcal_params : Acts (Unit {0})
+  param_list_defcal_params = param_list_openqasm DefCalParams
 
   -- fn param_list_defcal_qubits, line 23
   -- runs: item `defcal`, item `defcal f q, r -> bit {`
   -- breaks: item `defcal f;`, item `defcal f q r`, item `defcal f $0`
-  unfoldable pub paramListDefcalQubits : Acts (Unit {0})
-  paramListDefcalQubits = paramListOpenqasm DefCalQubits
+  unfoldable pub param_list_defcal_qubits : Acts (Unit {0})
+  param_list_defcal_qubits = param_list_openqasm DefCalQubits
 
   -- fn expression_list, line 27
   -- runs: expr `a[1`, expr `a[1, b:c]`
   -- breaks: expr `a[`, expr `a[1 2`, expr `a[;`
-  unfoldable pub expressionList : Acts (Unit {0})
-  expressionList = paramListOpenqasm ExpressionList
+  unfoldable pub expression_list : Acts (Unit {0})
+  expression_list = param_list_openqasm ExpressionList

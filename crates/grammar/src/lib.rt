@@ -3,7 +3,7 @@
 ghost use Rattle.std.specs.Prelude.{◌≡◌};
 ghost use Rattle.input.specs.Input.{env};
 ghost use Rattle.runtime.specs.State.{view, Fit};
-ghost use Rattle.kinds.specs.Sets.{kindsOf};
+ghost use Rattle.kinds.specs.Sets.{kinds_of};
 ghost use Rattle.runtime.specs.Acts.{Does, Steps};
 ghost use Rattle.grammar.specs.Grammar as acts;
 ghost use Rattle.grammar.specs.Atom as atoms;
@@ -99,7 +99,7 @@ pub struct Shape {
 // A name, or a recovery.
 pub fn name_r(kinds: &[u16], joints: &[u64], room: &mut [u32], p: Parser, recovery: Fixed) -> Parser
     requires { Fit p }
-    ensures { Does (env kinds.now joints.now) (acts.name_r (kindsOf recovery)) (view p room.old) tt (view result room.new) }
+    ensures { Does (env kinds.now joints.now) (acts.name_r (kinds_of recovery)) (view p room.old) tt (view result room.new) }
 {
     if p.at(kinds, joints, k::HARDWAREIDENT) {
         let s = p.start(room);
@@ -165,7 +165,7 @@ pub fn fail_if_at(
     code: u16,
 ) -> Parser
     requires { Fit p }
-    ensures { Does (env kinds.now joints.now) (acts.failIfAt kind code) (view p room.old) tt (view result room.new) }
+    ensures { Does (env kinds.now joints.now) (acts.fail_if_at kind code) (view p room.old) tt (view result room.new) }
 {
     if p.at(kinds, joints, kind) {
         return p.error(room, code, 0);
@@ -183,7 +183,7 @@ pub fn fail_unless_at(
     code: u16,
 ) -> Parser
     requires { Fit p }
-    ensures { Does (env kinds.now joints.now) (acts.failUnlessAt kind code) (view p room.old) tt (view result room.new) }
+    ensures { Does (env kinds.now joints.now) (acts.fail_unless_at kind code) (view p room.old) tt (view result room.new) }
 {
     if p.at(kinds, joints, kind) {
         return p;
@@ -201,7 +201,7 @@ pub fn separator(
     first: Fixed,
 ) -> Told
     requires { Fit p }
-    ensures { Does (env kinds.now joints.now) (acts.separator delim (kindsOf first)) (view p room.old) result.yes (view result.p room.new) }
+    ensures { Does (env kinds.now joints.now) (acts.separator delim (kinds_of first)) (view p room.old) result.yes (view result.p room.new) }
 {
     if p.at(kinds, joints, delim) {
         let p1 = p.bump(kinds, joints, room, delim);
@@ -219,7 +219,7 @@ pub fn separator(
 // The error of a return type that is no scalar.
 pub fn scalar_return(kinds: &[u16], joints: &[u64], room: &mut [u32], p: Parser) -> Parser
     requires { Fit p }
-    ensures { Does (env kinds.now joints.now) acts.scalarReturn (view p room.old) tt (view result room.new) }
+    ensures { Does (env kinds.now joints.now) acts.scalar_return (view p room.old) tt (view result room.new) }
 {
     let l = p.current(kinds, joints);
     let p1 = l.p;
@@ -232,7 +232,7 @@ pub fn scalar_return(kinds: &[u16], joints: &[u64], room: &mut [u32], p: Parser)
 // atom.rs: a physical qubit.
 pub fn hardware_qubit(kinds: &[u16], joints: &[u64], room: &mut [u32], p: Parser) -> Done
     requires { Fit p }
-    ensures { Does (env kinds.now joints.now) atoms.hardwareQubit (view p room.old) result.cm (view result.p room.new) }
+    ensures { Does (env kinds.now joints.now) atoms.hardware_qubit (view p room.old) result.cm (view result.p room.new) }
 {
     let s = p.start(room);
     let p1 = s.p;
@@ -243,7 +243,7 @@ pub fn hardware_qubit(kinds: &[u16], joints: &[u64], room: &mut [u32], p: Parser
 // expressions.rs: a name, or an error where none stands.
 pub fn var_name(kinds: &[u16], joints: &[u64], room: &mut [u32], p: Parser) -> Parser
     requires { Fit p }
-    ensures { Does (env kinds.now joints.now) E.varName (view p room.old) tt (view result room.new) }
+    ensures { Does (env kinds.now joints.now) E.var_name (view p room.old) tt (view result room.new) }
 {
     let s = p.start(room);
     let p1 = s.p;

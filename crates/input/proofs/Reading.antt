@@ -13,7 +13,7 @@ use Rattle.laws.proofs.Tests.{by-test, apart, on, off}
 use Rattle.input.specs.declared.Parts.{Parts}
 use Rattle.input.specs.declared.Parts.TheVariants.{One, Two, Three}
 use Rattle.input.specs.Input.{Env, seen}
-use Rattle.input.specs.Glue.{gluedKinds, parts_in, parts_of, rawCount, standsAt}
+use Rattle.input.specs.Glue.{glued_kinds, parts_in, parts_of, raw_count, stands_at}
 
 -- A kind that is none of the glued ones is its own part. NoneOf says it as the code's last arm knows it.
 abbrev NoneOf : ℕ → List (ℕ × Parts) → Type 0 → Type 0
@@ -57,12 +57,12 @@ pub unseen : (kinds : List ℕ) (r i : ℕ) → eqb r 0 ≡ false → seen kinds
 unfolding seen
 unseen kinds r i q = rw q
 
-pub refused_end : (e : Env) (r i : ℕ) → eqb r 0 ≡ false → standsAt e r i (parts_of EOF) ≡ true
-unfolding standsAt parts_of
+pub refused_end : (e : Env) (r i : ℕ) → eqb r 0 ≡ false → stands_at e r i (parts_of EOF) ≡ true
+unfolding stands_at parts_of
 refused_end e r i q = eq-eqb _ EOF (unseen e.kinds r i q)
 
 -- a token is made of one, two or three
-pub few-parts : (g : Parts) → (1 ≤ rawCount g) × (rawCount g ≤ 3)
+pub few-parts : (g : Parts) → (1 ≤ raw_count g) × (raw_count g ≤ 3)
 few-parts (One a) = omega arith
 few-parts (Two a b) = omega arith
 few-parts (Three a b c) = omega arith
@@ -98,15 +98,15 @@ part-not-end f k (g ∷ gs) w t q =
 
 pub first-not-end : (k : ℕ) → first (parts_of k) ≡ EOF → k ≡ EOF
 unfolding first open-ended parts_of
-first-not-end k q = part-not-end first k gluedKinds refl refl q
+first-not-end k q = part-not-end first k glued_kinds refl refl q
 
 pub final-not-end : (k : ℕ) → final (parts_of k) ≡ EOF → k ≡ EOF
 unfolding final open-ended parts_of
-final-not-end k q = part-not-end final k gluedKinds refl refl q
+final-not-end k q = part-not-end final k glued_kinds refl refl q
 
 -- a refused run sees the end alone
-pub refused-first : (e : Env) (r i : ℕ) (g : Parts) → eqb r 0 ≡ false → standsAt e r i g ≡ true → first g ≡ EOF
-unfolding standsAt first
+pub refused-first : (e : Env) (r i : ℕ) (g : Parts) → eqb r 0 ≡ false → stands_at e r i g ≡ true → first g ≡ EOF
+unfolding stands_at first
 refused-first e r i (One a) q h = sym (eqb-true (seen e.kinds r i) a h) ∙ unseen e.kinds r i q
 refused-first e r i (Two a b) q h = sym (eqb-true (seen e.kinds r i) a (both_true (eqb (seen e.kinds r i) a) _ h).0) ∙ unseen e.kinds r i q
 refused-first e r i (Three a b c) q h = sym (eqb-true (seen e.kinds r i) a (both_true (eqb (seen e.kinds r i) a) _ h).0) ∙ unseen e.kinds r i q

@@ -5,11 +5,11 @@ use Rattle.kinds.specs.Kinds.{AMP, AMP2, AMPEQ, BANG, CARET, CARETEQ, COLON, COL
 use Rattle.kinds.specs.Membership.{both}
 use Rattle.input.specs.declared.Parts.{Parts}
 use Rattle.input.specs.declared.Parts.TheVariants.{One, Two, Three}
-use Rattle.input.specs.Input.{Env, isJoint, seen}
+use Rattle.input.specs.Input.{Env, is_joint, seen}
 
 -- the arms of `nth_at`, in its order: a kind, and what it is glued of
-abbrev pub gluedKinds : List (ℕ × Parts)
-gluedKinds =
+abbrev pub glued_kinds : List (ℕ × Parts)
+glued_kinds =
     (MINUSEQ, Two MINUS EQ)
     ∷ (THIN-ARROW, Two MINUS R-ANGLE)
     ∷ (COLON2, Two COLON COLON)
@@ -43,34 +43,34 @@ parts_in k (g ∷ gs) = cond (eqb k g.0) g.1 (parts_in k gs)
 
 -- what a kind is made of: the last arm of `nth_at` is a kind of one token
 unfoldable pub parts_of : ℕ → Parts
-parts_of k = parts_in k gluedKinds
+parts_of k = parts_in k glued_kinds
 
 -- whether that is one token
-abbrev pub isOne : Parts → Bool
-isOne (One a) = true
-isOne (Two a b) = false
-isOne (Three a b c) = false
+abbrev pub is_one : Parts → Bool
+is_one (One a) = true
+is_one (Two a b) = false
+is_one (Three a b c) = false
 
 -- `n_raw_tokens` of `eat`
-abbrev pub rawCount : Parts → ℕ
-rawCount (One a) = 1
-rawCount (Two a b) = 2
-rawCount (Three a b c) = 3
+abbrev pub raw_count : Parts → ℕ
+raw_count (One a) = 1
+raw_count (Two a b) = 2
+raw_count (Three a b c) = 3
 
 -- two kinds, the first joint
-abbrev pub atComposite2 : Env → ℕ → ℕ → ℕ → ℕ → Bool
-atComposite2 e r i k1 k2 =
-    both (eqb (seen e.kinds r i) k1) (both (eqb (seen e.kinds r (i + 1)) k2) (isJoint e.joints i))
+abbrev pub at_composite2 : Env → ℕ → ℕ → ℕ → ℕ → Bool
+at_composite2 e r i k1 k2 =
+    both (eqb (seen e.kinds r i) k1) (both (eqb (seen e.kinds r (i + 1)) k2) (is_joint e.joints i))
 
 -- three kinds, the first two joint
-abbrev pub atComposite3 : Env → ℕ → ℕ → ℕ → ℕ → ℕ → Bool
-atComposite3 e r i k1 k2 k3 =
+abbrev pub at_composite3 : Env → ℕ → ℕ → ℕ → ℕ → ℕ → Bool
+at_composite3 e r i k1 k2 k3 =
     both (eqb (seen e.kinds r i) k1)
     (both (eqb (seen e.kinds r (i + 1)) k2)
-    (both (eqb (seen e.kinds r (i + 2)) k3) (both (isJoint e.joints i) (isJoint e.joints (i + 1)))))
+    (both (eqb (seen e.kinds r (i + 2)) k3) (both (is_joint e.joints i) (is_joint e.joints (i + 1)))))
 
 -- whether the tokens at position i are these parts, in a run with refusal r; one kind ignores joint bits
-unfoldable pub standsAt : Env → ℕ → ℕ → Parts → Bool
-standsAt e r i (One k1) = eqb (seen e.kinds r i) k1
-standsAt e r i (Two k1 k2) = atComposite2 e r i k1 k2
-standsAt e r i (Three k1 k2 k3) = atComposite3 e r i k1 k2 k3
+unfoldable pub stands_at : Env → ℕ → ℕ → Parts → Bool
+stands_at e r i (One k1) = eqb (seen e.kinds r i) k1
+stands_at e r i (Two k1 k2) = at_composite2 e r i k1 k2
+stands_at e r i (Three k1 k2 k3) = at_composite3 e r i k1 k2 k3

@@ -9,8 +9,8 @@ pub record Env : Type 0 where
   pub joints : List ℕ
 
 -- docs/RULES.md section 1: at most so many tokens are consumed
-abbrev pub mostTokens : ℕ
-mostTokens = 8192
+abbrev pub most_tokens : ℕ
+most_tokens = 8192
 
 abbrev pub env : List ℕ → List ℕ → Env
 env kinds joints = record { kinds = kinds; joints = joints }
@@ -20,8 +20,8 @@ abbrev pub kind : List ℕ → ℕ → ℕ
 kind kinds i = get_or kinds i EOF
 
 -- `Input::is_joint`: bit i mod 64 of word i / 64, lowest first
-abbrev pub isJoint : List ℕ → ℕ → Bool
-isJoint joints n = bit joints n
+abbrev pub is_joint : List ℕ → ℕ → Bool
+is_joint joints n = bit joints n
 
 -- the kind at a position in a run with this refusal: once it is not 0, every look answers EOF
 unfoldable pub seen : List ℕ → ℕ → ℕ → ℕ

@@ -1,7 +1,7 @@
 // Reading the lent tokens: src/input.rs, and the tests of src/parser.rs that only read them.
 ghost use Rattle.std.specs.Prelude.{◌≡◌, ◌+◌, ◌≤◌, min, leb, length};
-ghost use Rattle.input.specs.Input.{env, mostTokens, seen, isJoint};
-ghost use Rattle.input.specs.Glue.{atComposite2, atComposite3, standsAt, parts_of, isOne, rawCount};
+ghost use Rattle.input.specs.Input.{env, most_tokens, seen, is_joint};
+ghost use Rattle.input.specs.Glue.{at_composite2, at_composite3, stands_at, parts_of, is_one, raw_count};
 
 use kinds::syntax_kind_enum as k;
 
@@ -30,7 +30,7 @@ pub fn kind(kinds: &[u16], refused: u32, i: usize) -> u16
 
 // Whether the tokens before a position are there to be consumed.
 pub fn enough(kinds: &[u16], end: usize) -> bool
-    ensures { result ≡ leb end (min (length kinds.now) mostTokens) }
+    ensures { result ≡ leb end (min (length kinds.now) most_tokens) }
 {
     if end <= MOST_TOKENS {
         return end <= kinds.len();
@@ -40,7 +40,7 @@ pub fn enough(kinds: &[u16], end: usize) -> bool
 
 // Whether the token at a position touches the next one.
 fn is_joint(joints: &[u64], n: usize) -> bool
-    ensures { result ≡ isJoint joints.now n }
+    ensures { result ≡ is_joint joints.now n }
 {
     let w = n / 64;
     if w < joints.len() {
@@ -50,8 +50,8 @@ fn is_joint(joints: &[u64], n: usize) -> bool
 }
 
 fn at_composite2(kinds: &[u16], joints: &[u64], refused: u32, i: usize, k1: u16, k2: u16) -> bool
-    requires { i ≤ mostTokens + 3 }
-    ensures { result ≡ atComposite2 (env kinds.now joints.now) refused i k1 k2 }
+    requires { i ≤ most_tokens + 3 }
+    ensures { result ≡ at_composite2 (env kinds.now joints.now) refused i k1 k2 }
 {
     if kind(kinds, refused, i) != k1 {
         return false;
@@ -71,8 +71,8 @@ fn at_composite3(
     k2: u16,
     k3: u16,
 ) -> bool
-    requires { i ≤ mostTokens + 3 }
-    ensures { result ≡ atComposite3 (env kinds.now joints.now) refused i k1 k2 k3 }
+    requires { i ≤ most_tokens + 3 }
+    ensures { result ≡ at_composite3 (env kinds.now joints.now) refused i k1 k2 k3 }
 {
     if kind(kinds, refused, i) != k1 {
         return false;
@@ -91,8 +91,8 @@ fn at_composite3(
 
 // Whether the tokens at a position are these parts.
 pub fn stands_at(kinds: &[u16], joints: &[u64], refused: u32, i: usize, parts: Parts) -> bool
-    requires { i ≤ mostTokens + 3 }
-    ensures { result ≡ standsAt (env kinds.now joints.now) refused i parts }
+    requires { i ≤ most_tokens + 3 }
+    ensures { result ≡ stands_at (env kinds.now joints.now) refused i parts }
 {
     match parts {
         Parts::One(k1) => kind(kinds, refused, i) == k1,
@@ -106,7 +106,7 @@ const PLAIN: u64 = 0xff80002947fffffb;
 
 // Whether a kind is one token.
 pub fn is_plain(kind: u16) -> bool
-    ensures { result ≡ isOne (parts_of kind) }
+    ensures { result ≡ is_one (parts_of kind) }
 {
     if kind > 63 {
         return true;
@@ -116,7 +116,7 @@ pub fn is_plain(kind: u16) -> bool
 
 // How many tokens a kind is made of, told by the kind: `parts_of` has one caller, and is compiled into it (docs/SPEED.md).
 pub fn raw_of(kind: u16) -> usize
-    ensures { result ≡ rawCount (parts_of kind) }
+    ensures { result ≡ raw_count (parts_of kind) }
 {
     if is_plain(kind) {
         return 1;

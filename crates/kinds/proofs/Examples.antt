@@ -5,7 +5,7 @@ use mathlib.Core.List.{List, [], ◌∷◌, map}
 use Prim.Native.Nat.{ℕ}
 use lib.ListN.{length}
 use Rattle.kinds.specs.Membership.{one_of, once}
-use Rattle.kinds.specs.Sets.{kindsOf}
+use Rattle.kinds.specs.Sets.{kinds_of}
 use Rattle.kinds.specs.declared.sets.Fixed.{Fixed}
 use Rattle.kinds.specs.declared.sets.Fixed.TheVariants.{Empty, PathFirst, LiteralFirst, TimingLiteralFirst, AtomExprFirst, ExprRecoverySet, ExprFirst, PatternFirst, TypeFirst, ParamFirst, ItemRecoverySet, ScalarTypes, ClassicalTypes, QuantumTypes, Types, Permitted, QubitFirst, PrefixOps, CastNext, Assignable, Unindexed, ArrayBases, NoIntegers}
 
@@ -22,6 +22,6 @@ numbers =
     ∷ (9, 9) ∷ (10, 10) ∷ (2, 2) ∷ (12, 12) ∷ (92, 92) ∷ (2, 2) ∷ (3, 3) ∷ (2, 2) ∷ (2, 2) ∷ (3, 3) ∷ (7, 7) ∷ (5, 5)
     ∷ []
 
-table : map (λ (s : Fixed). (length (kindsOf s), length (once (kindsOf s)))) fixed ≡ numbers
+table : map (λ (s : Fixed). (length (kinds_of s), length (once (kinds_of s)))) fixed ≡ numbers
 unfolding fixed numbers once one_of
 table = refl

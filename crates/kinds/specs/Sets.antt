@@ -116,27 +116,27 @@ abbrev pub NO-INTEGERS : List ℕ
 NO-INTEGERS = FLOAT-NUMBER ∷ BYTE ∷ CHAR ∷ STRING ∷ BIT-STRING ∷ []
 
 -- the kinds of a fixed set
-abbrev pub kindsOf : Fixed → List ℕ
-kindsOf Empty = EMPTY
-kindsOf PathFirst = PATH-FIRST
-kindsOf LiteralFirst = LITERAL-FIRST
-kindsOf TimingLiteralFirst = TIMING-LITERAL-FIRST
-kindsOf AtomExprFirst = ATOM-EXPR-FIRST
-kindsOf ExprRecoverySet = EXPR-RECOVERY-SET
-kindsOf ExprFirst = EXPR-FIRST
-kindsOf PatternFirst = PATTERN-FIRST
-kindsOf TypeFirst = TYPE-FIRST
-kindsOf ParamFirst = PARAM-FIRST
-kindsOf ItemRecoverySet = ITEM-RECOVERY-SET
-kindsOf ScalarTypes = SCALAR-TYPES
-kindsOf ClassicalTypes = CLASSICAL-TYPES
-kindsOf QuantumTypes = QUANTUM-TYPES
-kindsOf Types = TYPES
-kindsOf Permitted = PERMITTED
-kindsOf QubitFirst = QUBIT-FIRST
-kindsOf PrefixOps = PREFIX-OPS
-kindsOf CastNext = CAST-NEXT
-kindsOf Assignable = ASSIGNABLE
-kindsOf Unindexed = UNINDEXED
-kindsOf ArrayBases = ARRAY-BASES
-kindsOf NoIntegers = NO-INTEGERS
+abbrev pub kinds_of : Fixed → List ℕ
+kinds_of Empty = EMPTY
+kinds_of PathFirst = PATH-FIRST
+kinds_of LiteralFirst = LITERAL-FIRST
+kinds_of TimingLiteralFirst = TIMING-LITERAL-FIRST
+kinds_of AtomExprFirst = ATOM-EXPR-FIRST
+kinds_of ExprRecoverySet = EXPR-RECOVERY-SET
+kinds_of ExprFirst = EXPR-FIRST
+kinds_of PatternFirst = PATTERN-FIRST
+kinds_of TypeFirst = TYPE-FIRST
+kinds_of ParamFirst = PARAM-FIRST
+kinds_of ItemRecoverySet = ITEM-RECOVERY-SET
+kinds_of ScalarTypes = SCALAR-TYPES
+kinds_of ClassicalTypes = CLASSICAL-TYPES
+kinds_of QuantumTypes = QUANTUM-TYPES
+kinds_of Types = TYPES
+kinds_of Permitted = PERMITTED
+kinds_of QubitFirst = QUBIT-FIRST
+kinds_of PrefixOps = PREFIX-OPS
+kinds_of CastNext = CAST-NEXT
+kinds_of Assignable = ASSIGNABLE
+kinds_of Unindexed = UNINDEXED
+kinds_of ArrayBases = ARRAY-BASES
+kinds_of NoIntegers = NO-INTEGERS

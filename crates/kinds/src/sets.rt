@@ -2,7 +2,7 @@
 // syntax_kind.rt, and the kinds that a function lists in a test of its own. Written by tools/lists; ./check compares it with the source.
 ghost use Rattle.std.specs.Prelude.{◌≡◌, length};
 ghost use Rattle.kinds.specs.Membership.{held, once, one_of};
-ghost use Rattle.kinds.specs.Sets.{kindsOf};
+ghost use Rattle.kinds.specs.Sets.{kinds_of};
 
 use crate::listings;
 use crate::token_set::TokenSet;
@@ -37,7 +37,7 @@ pub enum Fixed {
 
 // A fixed set's words.
 pub fn set_of(set: Fixed) -> TokenSet
-    ensures { held result ≡ one_of (kindsOf set) }
+    ensures { held result ≡ one_of (kinds_of set) }
 {
     match set {
         Fixed::Empty => TokenSet {
@@ -116,7 +116,7 @@ impl Fixed {
     // Whether the set has the kind. The set that is asked at each operand is told from the others here: only so is the code that asks it compiled
     // into its callers (docs/SPEED.md).
     pub fn has(self, kind: u16) -> bool
-        ensures { result ≡ one_of (kindsOf self) kind }
+        ensures { result ≡ one_of (kinds_of self) kind }
     {
         match self {
             Fixed::PrefixOps => listings::in_prefix_ops(kind),
@@ -126,7 +126,7 @@ impl Fixed {
 
     // Whether the listing of the set has the kind.
     pub fn listed(self, kind: u16) -> bool
-        ensures { result ≡ one_of (kindsOf self) kind }
+        ensures { result ≡ one_of (kinds_of self) kind }
     {
         match self {
             Fixed::Empty => false,
@@ -157,7 +157,7 @@ impl Fixed {
 
     // How many kinds the set has: the ones of its words, which are as many as the kinds listed.
     pub fn count(self) -> u32
-        ensures { result ≡ length (once (kindsOf self)) }
+        ensures { result ≡ length (once (kinds_of self)) }
     {
         set_of(self).count()
     }

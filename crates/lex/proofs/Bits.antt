@@ -7,7 +7,7 @@ use native.Mathlib.Omega.{arith}
 use lib.Arith.{digits_lt}
 use lib.Pow.{pow-add, shl_exact, shr_le, shr_lt}
 use mir.Val.{bool_byte}
-use Rattle.lex.specs.Lexing.{withBit}
+use Rattle.lex.specs.Lexing.{with_bit}
 
 -- a bit as a number
 pub bit_is : (b : Bool) → bool_byte b ≡ cond b 1 0
@@ -54,5 +54,5 @@ module _ (w j : ℕ) (b : Bool) (hj : j < 64) (hw : w < 18446744073709551616) wh
   pub product_small : (w / 2 ^ j / 2 * 2 + bool_byte b) * (1 * 2 ^ j % 18446744073709551616) < 18446744073709551616
   product_small = rw one-is (omega (arith, both_small))
 
-  pub result-is : (w / 2 ^ j / 2 * 2 + bool_byte b) * (1 * 2 ^ j % 18446744073709551616) + w % (1 * 2 ^ j % 18446744073709551616) ≡ withBit w j b
+  pub result-is : (w / 2 ^ j / 2 * 2 + bool_byte b) * (1 * 2 ^ j % 18446744073709551616) + w % (1 * 2 ^ j % 18446744073709551616) ≡ with_bit w j b
   result-is = rw (one-is, bit_is b)

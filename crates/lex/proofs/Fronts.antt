@@ -5,7 +5,7 @@ use Prim.Native.Nat.{ℕ, suc, ◌+◌, ◌≤◌, ◌<◌}
 use native.Mathlib.Omega.{arith}
 use lib.ListN.{length, get_or, drop, set, length-append}
 use lib.Seq.{drop-cons}
-use Rattle.lex.specs.Lexing.{atFront}
+use Rattle.lex.specs.Lexing.{at_front}
 
 -- the first n places hold the front of a list whose rest is to come, and behind them the room is as it was
 pub record Front (room₀ room whole rest : List ℕ) (n : ℕ) : Type 0 where
@@ -36,7 +36,7 @@ module _ {room₀ room whole : List ℕ} {n : ℕ} where
   pub front-size : (rest : List ℕ) → Front room₀ room whole rest n → length whole ≡ n + length rest
   front-size rest h = ap length h.told ∙ length-append h.done rest ∙ ap (λ (k : ℕ). k + length rest) h.size
 
-  pub front-end : Front room₀ room whole [] n → room ≡ atFront whole room₀
+  pub front-end : Front room₀ room whole [] n → room ≡ at_front whole room₀
   front-end h =
       let all : whole ≡ h.done = h.told ∙ append-nil h.done in
       rw all (h.now ∙ ap (λ (k : ℕ). h.done ++ drop k room₀) (sym h.size))

@@ -8,14 +8,14 @@ use borrow.Author.Tests.{leb-true, le-leb, lt-leb, eq-eqb}
 use Rattle.kinds.specs.Kinds.{WHITESPACE, COMMENT}
 use Rattle.kinds.specs.Membership.{both, one_of}
 use Rattle.laws.proofs.Tests.{apart}
-use Rattle.lex.specs.Lexing.{isTrivia, fit}
+use Rattle.lex.specs.Lexing.{is_trivia, fit}
 
 -- a kind is trivia where it is the first or the second
-pub first-trivia : (k : ℕ) → k ≡ WHITESPACE → eqb k WHITESPACE ≡ isTrivia k
+pub first-trivia : (k : ℕ) → k ≡ WHITESPACE → eqb k WHITESPACE ≡ is_trivia k
 unfolding one_of
 first-trivia k e = rw (eq-eqb k WHITESPACE e)
 
-pub second-trivia : (k : ℕ) → eqb k WHITESPACE ≡ false → eqb k COMMENT ≡ isTrivia k
+pub second-trivia : (k : ℕ) → eqb k WHITESPACE ≡ false → eqb k COMMENT ≡ is_trivia k
 unfolding one_of
 second-trivia k e = by (eqb k COMMENT) refl
   where

@@ -21,14 +21,14 @@ use Rattle.lex.specs.Inside.{NoClose}
 pub record Scanned (text : List ℕ) (at state i found end : ℕ) : Type 0 where
   pub is : longest rules 0 (drop at text) ≡ or_else (longest (left state) (i - at) (drop i text)) (coded (kind-of found) (end - at))
 
-orElse-nothing : (t : Token) → t ≡ or_else t nothing
-orElse-nothing nothing = refl
-orElse-nothing (token k n) = refl
+or_else-nothing : (t : Token) → t ≡ or_else t nothing
+or_else-nothing nothing = refl
+or_else-nothing (token k n) = refl
 
 pub scan-start : (text : List ℕ) (at : ℕ) → Scanned text at width at 0 at
 scan-start text at =
     let none_passed : at - at ≡ 0 = omega arith in
-    record { is = rw (start, none_passed, dead-kind) (orElse-nothing (longest rules 0 (drop at text))) }
+    record { is = rw (start, none_passed, dead-kind) (or_else-nothing (longest rules 0 (drop at text))) }
 
 first : (j n : ℕ) (t : Token) → (j ≡ 0 → ⊥) → or_else (coded j n) t ≡ coded j n
 first zero n t nz = absurd (nz refl)

@@ -11,7 +11,7 @@ use Rattle.kinds.specs.Membership.{one_of}
 use Rattle.lexical.specs.Lexed.{Token, nothing, token, coded, longest, tokens, lexed, words}
 use Rattle.lexical.specs.Rules.{rules}
 use Rattle.lexical.proofs.Theorem.{Found, found, no_more, lexed-right, tiles-few}
-use Rattle.lex.specs.Lexing.{isTrivia, kindsIn, touched, jointsIn, put_bit, putBits, Lent, ends, says, writes}
+use Rattle.lex.specs.Lexing.{is_trivia, kinds_in, touched, joints_in, put_bit, put_bits, Lent, ends, says, writes}
 use Rattle.lex.proofs.Laws.{Held}
 use Rattle.lex.proofs.Fronts.{Front, front-begin, front-put, front-size, front-end, front_same}
 
@@ -47,29 +47,29 @@ none_left text i h = rw (drop_of_length-le text h) no_more
 
 -- ---- what a token adds
 
-kinds-more : (k m : ℕ) (ts : List Token) → kindsIn (token k m ∷ ts) ≡ cond (isTrivia k) (kindsIn ts) (k ∷ kindsIn ts)
-unfolding kindsIn
+kinds-more : (k m : ℕ) (ts : List Token) → kinds_in (token k m ∷ ts) ≡ cond (is_trivia k) (kinds_in ts) (k ∷ kinds_in ts)
+unfolding kinds_in
 kinds-more k m ts = refl
 
 words_more : (k m : ℕ) (ts : List Token) → words (token k m ∷ ts) ≡ k ∷ m ∷ words ts
 unfolding words
 words_more k m ts = refl
 
-joints-more : (k m : ℕ) (ts : List Token) → jointsIn (token k m ∷ ts) ≡ cond (isTrivia k) (jointsIn ts) (touched ts ∷ jointsIn ts)
-unfolding jointsIn
+joints-more : (k m : ℕ) (ts : List Token) → joints_in (token k m ∷ ts) ≡ cond (is_trivia k) (joints_in ts) (touched ts ∷ joints_in ts)
+unfolding joints_in
 joints-more k m ts = refl
 
 -- there are no more tokens than bytes, and no more kinds than tokens
 pub tokens-few : (text : List ℕ) → length (lexed rules text) ≤ length text
 tokens-few text = tiles-few rules text (lexed rules text) (lexed-right text)
 
-pub kinds-few : (ts : List Token) → length (kindsIn ts) ≤ length ts
-unfolding kindsIn
+pub kinds-few : (ts : List Token) → length (kinds_in ts) ≤ length ts
+unfolding kinds_in
 kinds-few [] = omega arith
 kinds-few (nothing ∷ ts) = omega (arith, kinds-few ts)
-kinds-few (token k n ∷ ts) = by (isTrivia k) (kinds-few ts)
+kinds-few (token k n ∷ ts) = by (is_trivia k) (kinds-few ts)
   where
-    by : (x : Bool) → length (kindsIn ts) ≤ length ts → length (cond x (kindsIn ts) (k ∷ kindsIn ts)) ≤ suc (length ts)
+    by : (x : Bool) → length (kinds_in ts) ≤ length ts → length (cond x (kinds_in ts) (k ∷ kinds_in ts)) ≤ suc (length ts)
     by true h = omega (arith, h)
     by false h = omega (arith, h)
 
@@ -77,47 +77,47 @@ kinds-few (token k n ∷ ts) = by (isTrivia k) (kinds-few ts)
 
 pub record Counting (text : List ℕ) (i all some : ℕ) : Type 0 where
   pub tokens-are : length (lexed rules text) ≡ all + length (from text i)
-  pub kinds-are : length (kindsIn (lexed rules text)) ≡ some + length (kindsIn (from text i))
+  pub kinds-are : length (kinds_in (lexed rules text)) ≡ some + length (kinds_in (from text i))
 
 pub count-begin : (text : List ℕ) → Counting text 0 0 0
 count-begin text = record { tokens-are = omega arith; kinds-are = omega arith }
 
-pub count-on : {text : List ℕ} {i all some : ℕ} (k m : ℕ) → Counting text i all some → Next text i k m → Counting text (i + m) (all + 1) (cond (isTrivia k) some (some + 1))
+pub count-on : {text : List ℕ} {i all some : ℕ} (k m : ℕ) → Counting text i all some → Next text i k m → Counting text (i + m) (all + 1) (cond (is_trivia k) some (some + 1))
 count-on {text} {i} {all} {some} k m h t =
     record {
       tokens-are = omega (arith, h.tokens-are, ap length t.more);
-      kinds-are = h.kinds-are ∙ by (isTrivia k) (ap (λ (ts : List Token). length (kindsIn ts)) t.more ∙ ap length (kinds-more k m (from text (i + m))));
+      kinds-are = h.kinds-are ∙ by (is_trivia k) (ap (λ (ts : List Token). length (kinds_in ts)) t.more ∙ ap length (kinds-more k m (from text (i + m))));
     }
   where
-    by : (x : Bool) → length (kindsIn (from text i)) ≡ length (cond x (kindsIn (from text (i + m))) (k ∷ kindsIn (from text (i + m)))) → some + length (kindsIn (from text i)) ≡ cond x some (some + 1) + length (kindsIn (from text (i + m)))
+    by : (x : Bool) → length (kinds_in (from text i)) ≡ length (cond x (kinds_in (from text (i + m))) (k ∷ kinds_in (from text (i + m)))) → some + length (kinds_in (from text i)) ≡ cond x some (some + 1) + length (kinds_in (from text (i + m)))
     by true e = omega (arith, e)
     by false e = omega (arith, e)
 
-pub count-end : {text : List ℕ} {i all some : ℕ} → Counting text i all some → length text ≤ i → (all ≡ length (lexed rules text)) × (some ≡ length (kindsIn (lexed rules text)))
-unfolding kindsIn
+pub count-end : {text : List ℕ} {i all some : ℕ} → Counting text i all some → length text ≤ i → (all ≡ length (lexed rules text)) × (some ≡ length (kinds_in (lexed rules text)))
+unfolding kinds_in
 count-end {text} {i} {all} {some} h l =
     let none : from text i ≡ [] = none_left text i l in
-    (omega (arith, h.tokens-are, ap length none), omega (arith, h.kinds-are, ap (λ (ts : List Token). length (kindsIn ts)) none))
+    (omega (arith, h.tokens-are, ap length none), omega (arith, h.kinds-are, ap (λ (ts : List Token). length (kinds_in ts)) none))
 
 -- ---- joint bits, of which the last waits for the next token
 
 abbrev pub pending : Bool → ℕ → List Token → List ℕ → List ℕ
-pending true m ts joints = putBits (m - 1) (touched ts ∷ jointsIn ts) joints
-pending false m ts joints = putBits m (jointsIn ts) joints
+pending true m ts joints = put_bits (m - 1) (touched ts ∷ joints_in ts) joints
+pending false m ts joints = put_bits m (joints_in ts) joints
 
-bits-settled : (waits : Bool) (m k n : ℕ) (ts : List Token) (joints : List ℕ) → (waits ≡ true → 1 ≤ m) → pending waits m (token k n ∷ ts) joints ≡ putBits m (jointsIn (token k n ∷ ts)) (cond waits (put_bit joints (m - 1) (not (isTrivia k))) joints)
-unfolding putBits
+bits-settled : (waits : Bool) (m k n : ℕ) (ts : List Token) (joints : List ℕ) → (waits ≡ true → 1 ≤ m) → pending waits m (token k n ∷ ts) joints ≡ put_bits m (joints_in (token k n ∷ ts)) (cond waits (put_bit joints (m - 1) (not (is_trivia k))) joints)
+unfolding put_bits
 bits-settled true m k n ts joints h =
     let e : suc (m - 1) ≡ m = omega (arith, h refl) in
-    ap (λ (j : ℕ). putBits j (jointsIn (token k n ∷ ts)) (put_bit joints (m - 1) (not (isTrivia k)))) e
+    ap (λ (j : ℕ). put_bits j (joints_in (token k n ∷ ts)) (put_bit joints (m - 1) (not (is_trivia k)))) e
 bits-settled false m k n ts joints h = refl
 
-bits-waiting : (x : Bool) (m : ℕ) (ts : List Token) (joints : List ℕ) → putBits m (cond x (jointsIn ts) (touched ts ∷ jointsIn ts)) joints ≡ pending (not x) (cond x m (m + 1)) ts joints
+bits-waiting : (x : Bool) (m : ℕ) (ts : List Token) (joints : List ℕ) → put_bits m (cond x (joints_in ts) (touched ts ∷ joints_in ts)) joints ≡ pending (not x) (cond x m (m + 1)) ts joints
 bits-waiting true m ts joints = refl
-bits-waiting false m ts joints = let e : m ≡ m + 1 - 1 = omega arith in ap (λ (j : ℕ). putBits j (touched ts ∷ jointsIn ts) joints) e
+bits-waiting false m ts joints = let e : m ≡ m + 1 - 1 = omega arith in ap (λ (j : ℕ). put_bits j (touched ts ∷ joints_in ts) joints) e
 
-bits-ended : (waits : Bool) (m : ℕ) (joints : List ℕ) → pending waits m [] joints ≡ cond waits (put_bit joints (m - 1) (not (isTrivia WHITESPACE))) joints
-unfolding putBits jointsIn one_of
+bits-ended : (waits : Bool) (m : ℕ) (joints : List ℕ) → pending waits m [] joints ≡ cond waits (put_bit joints (m - 1) (not (is_trivia WHITESPACE))) joints
+unfolding put_bits joints_in one_of
 bits-ended true m joints = refl
 bits-ended false m joints = refl
 
@@ -126,8 +126,8 @@ bits-ended false m joints = refl
 pub record Writing (l : Lent) (kinds joints tokens : List ℕ) (i n m : ℕ) (waits : Bool) : Type 0 where
   pub counted : length (lexed rules l.text) ≡ n + length (from l.text i)
   pub listed : Front l.tokens tokens (words (lexed rules l.text)) (words (from l.text i)) (2 * n)
-  pub parted : Front l.kinds kinds (kindsIn (lexed rules l.text)) (kindsIn (from l.text i)) m
-  pub joined : putBits 0 (jointsIn (lexed rules l.text)) l.joints ≡ pending waits m (from l.text i) joints
+  pub parted : Front l.kinds kinds (kinds_in (lexed rules l.text)) (kinds_in (from l.text i)) m
+  pub joined : put_bits 0 (joints_in (lexed rules l.text)) l.joints ≡ pending waits m (from l.text i) joints
   pub some : waits ≡ true → 1 ≤ m
 
 pub begin : (l : Lent) → Writing l l.kinds l.joints l.tokens 0 0 0 false
@@ -135,36 +135,36 @@ begin l =
     record {
       counted = omega arith;
       listed = front-begin l.tokens (words (lexed rules l.text));
-      parted = front-begin l.kinds (kindsIn (lexed rules l.text));
+      parted = front-begin l.kinds (kinds_in (lexed rules l.text));
       joined = refl;
       some = λ e. let z : ◌≡◌ {A = ℕ} 0 1 = cc in absurd (omega arith);
     }
 
 -- how many kinds there are at least, where the next token is one or some are written
-pub kinds-there : {l : Lent} {kinds joints tokens : List ℕ} {i n m : ℕ} {waits : Bool} → Writing l kinds joints tokens i n m waits → m ≤ length (kindsIn (lexed rules l.text))
-kinds-there {l} {i = i} h = omega (arith, front-size (kindsIn (from l.text i)) h.parted)
+pub kinds-there : {l : Lent} {kinds joints tokens : List ℕ} {i n m : ℕ} {waits : Bool} → Writing l kinds joints tokens i n m waits → m ≤ length (kinds_in (lexed rules l.text))
+kinds-there {l} {i = i} h = omega (arith, front-size (kinds_in (from l.text i)) h.parted)
 
-pub kind-there : {l : Lent} {kinds joints tokens : List ℕ} {i n m : ℕ} {waits : Bool} (k len : ℕ) → Writing l kinds joints tokens i n m waits → Next l.text i k len → isTrivia k ≡ false → m < length (kindsIn (lexed rules l.text))
+pub kind-there : {l : Lent} {kinds joints tokens : List ℕ} {i n m : ℕ} {waits : Bool} (k len : ℕ) → Writing l kinds joints tokens i n m waits → Next l.text i k len → is_trivia k ≡ false → m < length (kinds_in (lexed rules l.text))
 kind-there {l} {i = i} {m = m} k len h t e =
-    let more : kindsIn (from l.text i) ≡ cond false (kindsIn (from l.text (i + len))) (k ∷ kindsIn (from l.text (i + len))) = ap kindsIn t.more ∙ kinds-more k len (from l.text (i + len)) ∙ ap (λ (x : Bool). cond x (kindsIn (from l.text (i + len))) (k ∷ kindsIn (from l.text (i + len)))) e in
-    omega (arith, front-size (kindsIn (from l.text i)) h.parted, ap length more)
+    let more : kinds_in (from l.text i) ≡ cond false (kinds_in (from l.text (i + len))) (k ∷ kinds_in (from l.text (i + len))) = ap kinds_in t.more ∙ kinds-more k len (from l.text (i + len)) ∙ ap (λ (x : Bool). cond x (kinds_in (from l.text (i + len))) (k ∷ kinds_in (from l.text (i + len)))) e in
+    omega (arith, front-size (kinds_in (from l.text i)) h.parted, ap length more)
 
 pub token-there : {l : Lent} {kinds joints tokens : List ℕ} {i n m : ℕ} {waits : Bool} (k len : ℕ) → Writing l kinds joints tokens i n m waits → Next l.text i k len → n < length (lexed rules l.text)
 token-there k len h t = omega (arith, h.counted, ap length t.more)
 
-module _ {l : Lent} {kinds joints tokens : List ℕ} {i n m : ℕ} {waits : Bool} (k len : ℕ) (h : Writing l kinds joints tokens i n m waits) (t : Next l.text i k len) (room : 2 * n + 2 ≤ length l.tokens) (kept : isTrivia k ≡ false → m < length l.kinds) where
+module _ {l : Lent} {kinds joints tokens : List ℕ} {i n m : ℕ} {waits : Bool} (k len : ℕ) (h : Writing l kinds joints tokens i n m waits) (t : Next l.text i k len) (room : 2 * n + 2 ≤ length l.tokens) (kept : is_trivia k ≡ false → m < length l.kinds) where
   rest : List Token
   rest = from l.text (i + len)
 
-  part-on : (x : Bool) → isTrivia k ≡ x → Front l.kinds kinds (kindsIn (lexed rules l.text)) (cond x (kindsIn (from l.text (i + len))) (k ∷ kindsIn (from l.text (i + len)))) m → Front l.kinds (cond x kinds (set kinds m k)) (kindsIn (lexed rules l.text)) (kindsIn (from l.text (i + len))) (cond x m (m + 1))
+  part-on : (x : Bool) → is_trivia k ≡ x → Front l.kinds kinds (kinds_in (lexed rules l.text)) (cond x (kinds_in (from l.text (i + len))) (k ∷ kinds_in (from l.text (i + len)))) m → Front l.kinds (cond x kinds (set kinds m k)) (kinds_in (lexed rules l.text)) (kinds_in (from l.text (i + len))) (cond x m (m + 1))
   part-on true e f = f
-  part-on false e f = subst (Front l.kinds (set kinds m k) (kindsIn (lexed rules l.text)) (kindsIn (from l.text (i + len)))) (sym (add-one m)) (front-put k (kindsIn (from l.text (i + len))) f (kept e))
+  part-on false e f = subst (Front l.kinds (set kinds m k) (kinds_in (lexed rules l.text)) (kinds_in (from l.text (i + len)))) (sym (add-one m)) (front-put k (kinds_in (from l.text (i + len))) f (kept e))
 
   waiting : (x : Bool) → not x ≡ true → 1 ≤ cond x m (m + 1)
   waiting true e = let z : ◌≡◌ {A = ℕ} 0 1 = cc in absurd (omega arith)
   waiting false e = omega arith
 
-  pub onward : Writing l (cond (isTrivia k) kinds (set kinds m k)) (cond waits (put_bit joints (m - 1) (not (isTrivia k))) joints) (set (set tokens (2 * n) k) (2 * n + 1) len) (i + len) (n + 1) (cond (isTrivia k) m (m + 1)) (not (isTrivia k))
+  pub onward : Writing l (cond (is_trivia k) kinds (set kinds m k)) (cond waits (put_bit joints (m - 1) (not (is_trivia k))) joints) (set (set tokens (2 * n) k) (2 * n + 1) len) (i + len) (n + 1) (cond (is_trivia k) m (m + 1)) (not (is_trivia k))
   onward =
       let two : suc (suc (2 * n)) ≡ 2 * (n + 1) = omega arith in
       let first : Front l.tokens (set tokens (2 * n) k) (words (lexed rules l.text)) (len ∷ words (from l.text (i + len))) (suc (2 * n)) =
@@ -174,34 +174,34 @@ module _ {l : Lent} {kinds joints tokens : List ℕ} {i n m : ℕ} {waits : Bool
       record {
         counted = omega (arith, h.counted, ap length t.more);
         listed = rw (add-one (2 * n), ← two) second;
-        parted = part-on (isTrivia k) refl (front_same (kindsIn (from l.text i)) (cond (isTrivia k) (kindsIn (from l.text (i + len))) (k ∷ kindsIn (from l.text (i + len)))) (ap kindsIn t.more ∙ kinds-more k len (from l.text (i + len))) h.parted);
+        parted = part-on (is_trivia k) refl (front_same (kinds_in (from l.text i)) (cond (is_trivia k) (kinds_in (from l.text (i + len))) (k ∷ kinds_in (from l.text (i + len)))) (ap kinds_in t.more ∙ kinds-more k len (from l.text (i + len))) h.parted);
         joined =
             h.joined
             ∙ ap (λ (ts : List Token). pending waits m ts joints) t.more
             ∙ bits-settled waits m k len (from l.text (i + len)) joints h.some
-            ∙ ap (λ (bs : List Bool). putBits m bs (cond waits (put_bit joints (m - 1) (not (isTrivia k))) joints)) (joints-more k len (from l.text (i + len)))
-            ∙ bits-waiting (isTrivia k) m (from l.text (i + len)) (cond waits (put_bit joints (m - 1) (not (isTrivia k))) joints);
-        some = waiting (isTrivia k);
+            ∙ ap (λ (bs : List Bool). put_bits m bs (cond waits (put_bit joints (m - 1) (not (is_trivia k))) joints)) (joints-more k len (from l.text (i + len)))
+            ∙ bits-waiting (is_trivia k) m (from l.text (i + len)) (cond waits (put_bit joints (m - 1) (not (is_trivia k))) joints);
+        some = waiting (is_trivia k);
       }
 
-pub finish : {l : Lent} {kinds joints tokens kinds' joints' : List ℕ} {i n m m' : ℕ} {waits : Bool} → Writing l kinds joints tokens i n m waits → length l.text ≤ i → m' ≡ cond (isTrivia WHITESPACE) m (m + 1) → kinds' ≡ cond (isTrivia WHITESPACE) kinds (set kinds m WHITESPACE) → joints' ≡ cond waits (put_bit joints (m - 1) (not (isTrivia WHITESPACE))) joints → writes (lexed rules l.text) l ≡ ends (says 0 n m') kinds' joints' tokens
-unfolding one_of kindsIn words
+pub finish : {l : Lent} {kinds joints tokens kinds' joints' : List ℕ} {i n m m' : ℕ} {waits : Bool} → Writing l kinds joints tokens i n m waits → length l.text ≤ i → m' ≡ cond (is_trivia WHITESPACE) m (m + 1) → kinds' ≡ cond (is_trivia WHITESPACE) kinds (set kinds m WHITESPACE) → joints' ≡ cond waits (put_bit joints (m - 1) (not (is_trivia WHITESPACE))) joints → writes (lexed rules l.text) l ≡ ends (says 0 n m') kinds' joints' tokens
+unfolding one_of kinds_in words
 finish {l} {kinds} {joints} {tokens} {kinds'} {joints'} {i} {n} {m} {m'} {waits} h over em ek ej =
     let none : from l.text i ≡ [] = none_left l.text i over in
     let all : length (lexed rules l.text) ≡ n = omega (arith, h.counted, ap length none) in
-    let parts : Front l.kinds kinds (kindsIn (lexed rules l.text)) [] m = front_same (kindsIn (from l.text i)) [] (ap kindsIn none) h.parted in
+    let parts : Front l.kinds kinds (kinds_in (lexed rules l.text)) [] m = front_same (kinds_in (from l.text i)) [] (ap kinds_in none) h.parted in
     let list : Front l.tokens tokens (words (lexed rules l.text)) [] (2 * n) = front_same (words (from l.text i)) [] (ap words none) h.listed in
-    let some : length (kindsIn (lexed rules l.text)) ≡ m = omega (arith, front-size [] parts) in
+    let some : length (kinds_in (lexed rules l.text)) ≡ m = omega (arith, front-size [] parts) in
     same all (some ∙ sym em) (sym (front-end parts) ∙ sym ek) (h.joined ∙ ap (λ (ts : List Token). pending waits m ts joints) none ∙ bits-ended waits m joints ∙ sym ej) (sym (front-end list))
   where
     same : {a a' b b' : ℕ} {k k' j j' t t' : List ℕ} → a ≡ a' → b ≡ b' → k ≡ k' → j ≡ j' → t ≡ t' → ends (says 0 a b) k j t ≡ ends (says 0 a' b') k' j' t'
     same ea eb ek ej et = λ i. ends (says 0 (ea i) (eb i)) (ek i) (ej i) (et i)
 
 -- a bit that waits has its word
-pub waits-held : {l : Lent} {kinds joints tokens : List ℕ} {i n m : ℕ} {waits : Bool} {all k t : ℕ} → Writing l kinds joints tokens i n m waits → Held all (length (kindsIn (lexed rules l.text))) k (length l.joints) t → length joints ≡ length l.joints → waits ≡ true → (1 ≤ m) × ((m - 1) / 64 < length joints)
+pub waits-held : {l : Lent} {kinds joints tokens : List ℕ} {i n m : ℕ} {waits : Bool} {all k t : ℕ} → Writing l kinds joints tokens i n m waits → Held all (length (kinds_in (lexed rules l.text))) k (length l.joints) t → length joints ≡ length l.joints → waits ≡ true → (1 ≤ m) × ((m - 1) / 64 < length joints)
 waits-held {l} {m = m} h r e w =
     let some : 1 ≤ m = h.some w in
-    let most : m ≤ length (kindsIn (lexed rules l.text)) = kinds-there h in
+    let most : m ≤ length (kinds_in (lexed rules l.text)) = kinds-there h in
     (some, omega (arith, r.bits, e, some, most))
 
 -- the same of what the calls have left

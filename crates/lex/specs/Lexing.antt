@@ -7,43 +7,43 @@ use Rattle.lexical.specs.Rules.{rules}
 use Rattle.lex.specs.declared.Answer.{Answer}
 
 -- `is_trivia`
-abbrev pub isTrivia : ℕ → Bool
-isTrivia k = one_of (WHITESPACE ∷ COMMENT ∷ []) k
+abbrev pub is_trivia : ℕ → Bool
+is_trivia k = one_of (WHITESPACE ∷ COMMENT ∷ []) k
 
 -- the kinds of the tokens that are no trivia
-unfoldable pub kindsIn : List Token → List ℕ
-kindsIn [] = []
-kindsIn (nothing ∷ ts) = kindsIn ts
-kindsIn (token k n ∷ ts) = cond (isTrivia k) (kindsIn ts) (k ∷ kindsIn ts)
+unfoldable pub kinds_in : List Token → List ℕ
+kinds_in [] = []
+kinds_in (nothing ∷ ts) = kinds_in ts
+kinds_in (token k n ∷ ts) = cond (is_trivia k) (kinds_in ts) (k ∷ kinds_in ts)
 
 -- whether the next byte begins a token that is no trivia
 abbrev pub touched : List Token → Bool
 touched [] = false
 touched (nothing ∷ ts) = false
-touched (token k n ∷ ts) = not (isTrivia k)
+touched (token k n ∷ ts) = not (is_trivia k)
 
 -- their joint bits
-unfoldable pub jointsIn : List Token → List Bool
-jointsIn [] = []
-jointsIn (nothing ∷ ts) = jointsIn ts
-jointsIn (token k n ∷ ts) = cond (isTrivia k) (jointsIn ts) (touched ts ∷ jointsIn ts)
+unfoldable pub joints_in : List Token → List Bool
+joints_in [] = []
+joints_in (nothing ∷ ts) = joints_in ts
+joints_in (token k n ∷ ts) = cond (is_trivia k) (joints_in ts) (touched ts ∷ joints_in ts)
 
 -- a word with its bit j made 0 or 1: what is above it, the bit, what is below it
-abbrev pub withBit : ℕ → ℕ → Bool → ℕ
-withBit w j b = (w / 2 ^ j / 2 * 2 + cond b 1 0) * 2 ^ j + w % 2 ^ j
+abbrev pub with_bit : ℕ → ℕ → Bool → ℕ
+with_bit w j b = (w / 2 ^ j / 2 * 2 + cond b 1 0) * 2 ^ j + w % 2 ^ j
 
 -- words of 64 bits with bit i made 0 or 1, lowest first
 abbrev pub put_bit : List ℕ → ℕ → Bool → List ℕ
-put_bit ws i b = set ws (i / 64) (withBit (get_or ws (i / 64) 0) (i % 64) b)
+put_bit ws i b = set ws (i / 64) (with_bit (get_or ws (i / 64) 0) (i % 64) b)
 
 -- and with some bits from bit i on
-unfoldable pub putBits : ℕ → List Bool → List ℕ → List ℕ
-putBits i [] ws = ws
-putBits i (b ∷ bs) ws = putBits (suc i) bs (put_bit ws i b)
+unfoldable pub put_bits : ℕ → List Bool → List ℕ → List ℕ
+put_bits i [] ws = ws
+put_bits i (b ∷ bs) ws = put_bits (suc i) bs (put_bit ws i b)
 
 -- a list at the front of a room, whose rest stays
-abbrev pub atFront : List ℕ → List ℕ → List ℕ
-atFront xs room = xs ++ drop (length xs) room
+abbrev pub at_front : List ℕ → List ℕ → List ℕ
+at_front xs room = xs ++ drop (length xs) room
 
 -- all that is lent
 pub record Lent : Type 0 where
@@ -70,25 +70,25 @@ abbrev pub says : ℕ → ℕ → ℕ → Answer
 says code place kinds = record { code = code; place = place; kinds = kinds }
 
 -- at most so many bytes are read
-abbrev pub mostText : ℕ
-mostText = 65536
+abbrev pub most_text : ℕ
+most_text = 65536
 
 -- so many tokens, and so many of them no trivia, fit: two words for each token, a number for each kind, 64 joint bits to a word
 abbrev pub fit : ℕ → ℕ → ℕ → ℕ → ℕ → Bool
 fit all some kinds joints tokens = both (leb (2 * all) tokens) (both (leb some kinds) (leb ((some + 63) / 64) joints))
 
 abbrev pub fits : List Token → Lent → Bool
-fits ts l = fit (length ts) (length (kindsIn ts)) (length l.kinds) (length l.joints) (length l.tokens)
+fits ts l = fit (length ts) (length (kinds_in ts)) (length l.kinds) (length l.joints) (length l.tokens)
 
 abbrev pub refuses : ℕ → ℕ → Lent → Outcome
 refuses code place l = ends (says code place 0) l.kinds l.joints l.tokens
 
 abbrev pub writes : List Token → Lent → Outcome
-writes ts l = ends (says 0 (length ts) (length (kindsIn ts))) (atFront (kindsIn ts) l.kinds) (putBits 0 (jointsIn ts) l.joints) (atFront (words ts) l.tokens)
+writes ts l = ends (says 0 (length ts) (length (kinds_in ts))) (at_front (kinds_in ts) l.kinds) (put_bits 0 (joints_in ts) l.joints) (at_front (words ts) l.tokens)
 
 -- the tokens of a text in the rooms, or 15
 abbrev pub placed : List Token → Lent → Outcome
 placed ts l = cond (fits ts l) (writes ts l) (refuses 15 (length ts) l)
 
 unfoldable pub lexing : Lent → Outcome
-lexing l = cond (ltb mostText (length l.text)) (refuses 14 0 l) (placed (lexed rules l.text) l)
+lexing l = cond (ltb most_text (length l.text)) (refuses 14 0 l) (placed (lexed rules l.text) l)

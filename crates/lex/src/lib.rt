@@ -5,7 +5,7 @@ ghost use Rattle.std.specs.Prelude.{◌≡◌, true, false, not, cond, ◌≤◌
 ghost use Rattle.lexical.specs.Lexed.{coded, longest, lexed};
 ghost use Rattle.lexical.specs.Rules.{rules};
 ghost use Rattle.lexical.specs.Table.{part, next, kind-of, State, Table};
-ghost use Rattle.lex.specs.Lexing.{isTrivia, kindsIn, withBit, put_bit, fit, fits, lent, ends, writes, placed, lexing};
+ghost use Rattle.lex.specs.Lexing.{is_trivia, kinds_in, with_bit, put_bit, fit, fits, lent, ends, writes, placed, lexing};
 ghost use Rattle.lex.specs.Inside.{NoClose};
 
 use crate::table::{BODY, CLASSES, ENTRIES, KIND_PART, KIND_WORD, LAST, LIVE, NEXTS, START};
@@ -37,7 +37,7 @@ const MOST_TEXT: usize = 65536;
 
 // `is_trivia`
 fn is_trivia(kind: u16) -> bool
-    ensures { result ≡ isTrivia kind }
+    ensures { result ≡ is_trivia kind }
 {
     kind == k::WHITESPACE || kind == k::COMMENT
 }
@@ -161,7 +161,7 @@ fn token_at(
 // A number of tokens that are no trivia, with one more.
 fn with_kind(some: usize, kind: u16) -> usize
     requires { some ≤ 65536 }
-    ensures { result ≡ cond (isTrivia kind) some (some + 1) }
+    ensures { result ≡ cond (is_trivia kind) some (some + 1) }
 {
     if is_trivia(kind) { some } else { some + 1 }
 }
@@ -171,7 +171,7 @@ fn count(text: &[u8], classes: &[u8; 256], nexts: &[u64; ENTRIES], close: usize)
     requires text_len_bound { length text.now ≤ 65536 }
     requires no_close { NoClose text.now close }
     requires table { Table classes.now nexts.now }
-    ensures { (result.all ≡ length (lexed rules text.now)) × (result.some ≡ length (kindsIn (lexed rules text.now))) }
+    ensures { (result.all ≡ length (lexed rules text.now)) × (result.some ≡ length (kinds_in (lexed rules text.now))) }
 {
     let mut i: usize = 0;
     let mut all: usize = 0;
@@ -208,7 +208,7 @@ fn put_bit(words: &mut [u64], i: usize, bit: bool)
 // A word with its bit j made 0 or 1.
 fn with_bit(w: u64, j: usize, bit: bool) -> u64
     requires { j < 64 }
-    ensures { result ≡ withBit w j bit }
+    ensures { result ≡ with_bit w j bit }
 {
     let one: u64 = 1 << j;
     let above = (w >> j) / 2 * 2 + bit as u64;
@@ -229,9 +229,9 @@ fn put_waiting(joints: &mut [u64], m: usize, waits: bool, bit: bool)
 // What a token leaves beside the list, where m kinds are written: the bit of the one before, where that waits for it, and its own kind.
 fn put_part(kinds: &mut [u16], joints: &mut [u64], m: usize, waits: bool, kind: u16) -> usize
     requires m_bound { m ≤ 65536 }
-    requires m_in_bounds { isTrivia kind ≡ false → m < length kinds.old }
+    requires m_in_bounds { is_trivia kind ≡ false → m < length kinds.old }
     requires le_m { waits ≡ true → (1 ≤ m) × ((m - 1) / 64 < length joints.old) }
-    ensures { (result ≡ cond (isTrivia kind) m (m + 1)) × (kinds.new ≡ cond (isTrivia kind) kinds.old (set kinds.old m kind)) × (joints.new ≡ cond waits (put_bit joints.old (m - 1) (not (isTrivia kind))) joints.old) }
+    ensures { (result ≡ cond (is_trivia kind) m (m + 1)) × (kinds.new ≡ cond (is_trivia kind) kinds.old (set kinds.old m kind)) × (joints.new ≡ cond waits (put_bit joints.old (m - 1) (not (is_trivia kind))) joints.old) }
 {
     let trivia = is_trivia(kind);
     put_waiting(joints, m, waits, !trivia);

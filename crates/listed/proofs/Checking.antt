@@ -7,7 +7,7 @@ use mathlib.Core.List.{List}
 use lib.Dec.{eqb, ltb}
 use lib.ListN.{length}
 use borrow.Author.Tests.{eqb-true, eqb-false, ltb-true, ltb-false}
-use Rattle.event.specs.Event.{eventWords, mostEvents, eventsOf}
+use Rattle.event.specs.Event.{event_words, most_events, events_of}
 use Rattle.laws.proofs.Tests.{by-test}
 use Rattle.event.proofs.Rooms.{length-events}
 use Rattle.lists.specs.Answer.{Numbers, says}
@@ -33,7 +33,7 @@ faulty-number ws n p (long h) = (omega arith, omega arith)
 faulty-number ws n p (odd h) = (omega arith, omega arith)
 faulty-number ws n p (fault h i f) = (omega arith, omega arith)
 
-faulty-nine : (ws : List ℕ) → length ws / eventWords ≤ mostEvents → (n p : ℕ) → Faulty ws n p → n ≡ 9
+faulty-nine : (ws : List ℕ) → length ws / event_words ≤ most_events → (n p : ℕ) → Faulty ws n p → n ≡ 9
 faulty-nine ws l n p (long h) = absurd (omega arith)
 faulty-nine ws l n p (odd h) = refl
 faulty-nine ws l n p (fault h i f) = refl
@@ -54,25 +54,25 @@ faulty-once ws n p q x y = by n p x n q y refl
     by n p (fault h i f) m q (fault k j g) e = fault-once _ i j f g
 
 -- a list of few events in whole words that is well formed meets no condition
-faultless : (ws : List ℕ) → length ws / eventWords ≤ mostEvents → length ws % eventWords ≡ 0 → WellFormed (eventsOf ws) → (n p : ℕ) → Faulty ws n p → ⊥
+faultless : (ws : List ℕ) → length ws / event_words ≤ most_events → length ws % event_words ≡ 0 → WellFormed (events_of ws) → (n p : ℕ) → Faulty ws n p → ⊥
 faultless ws l e w n p (long h) = omega arith
 faultless ws l e w n p (odd h) = h e
-faultless ws l e w n p (fault h i f) = formed-faultless (eventsOf ws) i w f
+faultless ws l e w n p (fault h i f) = formed-faultless (events_of ws) i w f
 
 -- Every list is told by what holds of it.
 pub verdict : (ws : List ℕ) → Checks ws (checked ws)
 unfolding checked
 verdict ws =
-    by-test (Checks ws) (ltb mostEvents (length ws / eventWords)) _ _
-    (λ t. fails 2 0 (record { holds = long (ltb-true mostEvents (length ws / eventWords) t); before = λ m q l f. omega (arith, (faulty-number ws m q f).0) }))
-    (λ t. by-test (Checks ws) (eqb (length ws % eventWords) 0) _ _
-    (λ u. list (ltb-false mostEvents (length ws / eventWords) t) (eqb-true (length ws % eventWords) 0 u) _ (scanned ws))
-    (λ u. nine (ltb-false mostEvents (length ws / eventWords) t) _ (odd (eqb-false (length ws % eventWords) 0 u))))
+    by-test (Checks ws) (ltb most_events (length ws / event_words)) _ _
+    (λ t. fails 2 0 (record { holds = long (ltb-true most_events (length ws / event_words) t); before = λ m q l f. omega (arith, (faulty-number ws m q f).0) }))
+    (λ t. by-test (Checks ws) (eqb (length ws % event_words) 0) _ _
+    (λ u. list (ltb-false most_events (length ws / event_words) t) (eqb-true (length ws % event_words) 0 u) _ (scanned ws))
+    (λ u. nine (ltb-false most_events (length ws / event_words) t) _ (odd (eqb-false (length ws % event_words) 0 u))))
   where
-    nine : length ws / eventWords ≤ mostEvents → (p : ℕ) → Faulty ws 9 p → Checks ws (says 9 p)
+    nine : length ws / event_words ≤ most_events → (p : ℕ) → Faulty ws 9 p → Checks ws (says 9 p)
     nine few p f = fails 9 p (record { holds = f; before = λ m q l g. omega (arith, faulty-nine ws few m q g) })
 
-    list : length ws / eventWords ≤ mostEvents → length ws % eventWords ≡ 0 → (a : Numbers) → Scanned (eventsOf ws) a → Checks ws a
+    list : length ws / event_words ≤ most_events → length ws % event_words ≡ 0 → (a : Numbers) → Scanned (events_of ws) a → Checks ws a
     list few even a (fine w) = rw length-events (passes (faultless ws few even w))
     list few even a (stuck p f) = nine few p (fault even p f)
 
@@ -106,23 +106,23 @@ done-when ws e = by (checked ws) (verdict ws) e
     by a (fails m q f) e = absurd (omega (arith, (faulty-number ws m q f.holds).0))
 
 -- A list of at most 65,536 events in an even number of words passes exactly where it is well formed.
-pub formed-passes : (ws : List ℕ) → length ws / eventWords ≤ mostEvents → length ws % eventWords ≡ 0 → WellFormed (eventsOf ws) → checked ws ≡ says 0 (length ws / eventWords)
+pub formed-passes : (ws : List ℕ) → length ws / event_words ≤ most_events → length ws % event_words ≡ 0 → WellFormed (events_of ws) → checked ws ≡ says 0 (length ws / event_words)
 formed-passes ws few even w = gives ws _ (passes (faultless ws few even w))
 
-pub passing-formed : (ws : List ℕ) → (checked ws).code ≡ 0 → (length ws / eventWords ≤ mostEvents) × (length ws % eventWords ≡ 0) × WellFormed (eventsOf ws)
-passing-formed ws e = (few (ltb mostEvents (length ws / eventWords)) refl, even (eqb (length ws % eventWords) 0) refl, formed _ (scanned ws))
+pub passing-formed : (ws : List ℕ) → (checked ws).code ≡ 0 → (length ws / event_words ≤ most_events) × (length ws % event_words ≡ 0) × WellFormed (events_of ws)
+passing-formed ws e = (few (ltb most_events (length ws / event_words)) refl, even (eqb (length ws % event_words) 0) refl, formed _ (scanned ws))
   where
     none : (n p : ℕ) → Faulty ws n p → ⊥
     none = done-when ws e
 
-    few : (t : Bool) → ltb mostEvents (length ws / eventWords) ≡ t → length ws / eventWords ≤ mostEvents
-    few true t = absurd (none 2 0 (long (ltb-true mostEvents (length ws / eventWords) t)))
-    few false t = ltb-false mostEvents (length ws / eventWords) t
+    few : (t : Bool) → ltb most_events (length ws / event_words) ≡ t → length ws / event_words ≤ most_events
+    few true t = absurd (none 2 0 (long (ltb-true most_events (length ws / event_words) t)))
+    few false t = ltb-false most_events (length ws / event_words) t
 
-    even : (t : Bool) → eqb (length ws % eventWords) 0 ≡ t → length ws % eventWords ≡ 0
-    even true t = eqb-true (length ws % eventWords) 0 t
-    even false t = absurd (none 9 _ (odd (eqb-false (length ws % eventWords) 0 t)))
+    even : (t : Bool) → eqb (length ws % event_words) 0 ≡ t → length ws % event_words ≡ 0
+    even true t = eqb-true (length ws % event_words) 0 t
+    even false t = absurd (none 9 _ (odd (eqb-false (length ws % event_words) 0 t)))
 
-    formed : (a : Numbers) → Scanned (eventsOf ws) a → WellFormed (eventsOf ws)
+    formed : (a : Numbers) → Scanned (events_of ws) a → WellFormed (events_of ws)
     formed a (fine w) = w
-    formed a (stuck p f) = absurd (none 9 p (fault (even (eqb (length ws % eventWords) 0) refl) p f))
+    formed a (stuck p f) = absurd (none 9 p (fault (even (eqb (length ws % event_words) 0) refl) p f))

@@ -15,7 +15,7 @@ use Rattle.laws.proofs.Tests.{by-test}
 use Rattle.records.specs.declared.Step.{Step}
 use Rattle.records.specs.declared.Step.TheVariants.{Error as error, Expected as expected}
 use Rattle.lists.specs.Answer.{says}
-use Rattle.lists.specs.Check.{lands, next, onNext, scan}
+use Rattle.lists.specs.Check.{lands, next, on_next, scan}
 use Rattle.own.specs.Own.{enters}
 use Rattle.turns.specs.Process.{Parent, placed, follow, entered, turn, turns, process, steps_of}
 use Rattle.listed.specs.Shape.{closes}
@@ -43,8 +43,8 @@ closes-entered o (x ∷ xs) ss =
 keep : (e : Event) (es l : List Event) (i o m : ℕ)
     → ((p : ℕ) → (scan es (suc i) p).code ≡ 0 → (scan l (suc i) (p + m)).code ≡ 0)
     → ((x : ℕ) → lands l x ≡ lands es x)
-    → (onNext (next e o es) (λ p. scan es (suc i) p) (says 9 i)).code ≡ 0
-    → (onNext (next e (o + m) l) (λ p. scan l (suc i) p) (says 9 i)).code ≡ 0
+    → (on_next (next e o es) (λ p. scan es (suc i) p) (says 9 i)).code ≡ 0
+    → (on_next (next e (o + m) l) (λ p. scan l (suc i) p) (says 9 i)).code ≡ 0
 unfolding next
 keep (Start k d) es l i o m ih ll h =
     let q = pass-start (lands es d) (o + min k 1) i (λ p. scan es (suc i) p) h in
@@ -58,8 +58,8 @@ keep (NoEvent a b) es l i o m ih ll h = absurd (omega arith)
 
 visited : (p k f : ℕ) (es : List Event) (i o : ℕ)
     → ((j q : ℕ) → (scan es j q).code ≡ 0 → (scan (follow (suc p) es f).left j (q + count (follow (suc p) es f).parents)).code ≡ 0)
-    → (onNext (next (Start k f) o es) (λ q. scan es (suc i) q) (says 9 i)).code ≡ 0
-    → (onNext (next (Start 0 0) (o + (min k 1 + count (follow (suc p) es f).parents)) (follow (suc p) es f).left) (λ q. scan (follow (suc p) es f).left (suc i) q) (says 9 i)).code ≡ 0
+    → (on_next (next (Start k f) o es) (λ q. scan es (suc i) q) (says 9 i)).code ≡ 0
+    → (on_next (next (Start 0 0) (o + (min k 1 + count (follow (suc p) es f).parents)) (follow (suc p) es f).left) (λ q. scan (follow (suc p) es f).left (suc i) q) (says 9 i)).code ≡ 0
 unfolding next
 visited p k f es i o ih h =
     let q = pass-start (lands es f) (o + min k 1) i (λ p. scan es (suc i) p) h in
@@ -82,7 +82,7 @@ scan-follow p (e ∷ es) (suc (suc d)) i o h =
 -- a turn, and the steps that close behind it
 closes-turn : (p : ℕ) (e : Event) (es : List Event) (i o : ℕ) (ss : List Step)
     → ((q : ℕ) → (scan (turn p e es).left (suc i) q).code ≡ 0 → closes q ss ≡ true)
-    → (onNext (next e o es) (λ q. scan es (suc i) q) (says 9 i)).code ≡ 0
+    → (on_next (next e o es) (λ q. scan es (suc i) q) (says 9 i)).code ≡ 0
     → closes o (steps_of (turn p e es).steps ++ ss) ≡ true
 unfolding next turn closes count
 closes-turn p (Start k d) es i o ss ih h =

@@ -12,18 +12,18 @@ use borrow.Author.Tests.{ne_eqb, eqb-true, eqb-false, ltb-true, ltb-false}
 use Rattle.event.specs.declared.Event.{Event}
 use Rattle.event.specs.declared.Event.TheVariants.{Start, Finish, Token, Error, NoEvent}
 use Rattle.event.specs.declared.Words.{Words}
-use Rattle.event.specs.Event.{eventWords, encode, decode, eventsOf, Sound, none, isStart, distance}
+use Rattle.event.specs.Event.{event_words, encode, decode, events_of, Sound, none, is_start, distance}
 use Rattle.laws.proofs.Tests.{by-test, apart}
 use Rattle.event.proofs.Encoding.{decode-encode, encode-decode, decode-sound}
 use Rattle.event.proofs.Rooms.{length-events, event-index}
 use Rattle.lists.specs.Answer.{Numbers, says}
-use Rattle.lists.specs.Check.{Next, Next.Open, Next.Fault, lands, next, onNext, scan}
+use Rattle.lists.specs.Check.{Next, Next.Open, Next.Fault, lands, next, on_next, scan}
 use Rattle.lists.proofs.Scans.{lands-index}
-use Rattle.listed.specs.WellFormed.{isNode, isFinish, count, opened, closed, eventAt, StartAt, Right, Wrong, Wrong.no-event, Wrong.astray, Wrong.below, WellFormed, Fault as FaultAt, Fault.first, Fault.unclosed, Said}
+use Rattle.listed.specs.WellFormed.{is_node, is_finish, count, opened, closed, event_at, StartAt, Right, Wrong, Wrong.no-event, Wrong.astray, Wrong.below, WellFormed, Fault as FaultAt, Fault.first, Fault.unclosed, Said}
 
 -- ---- one more event
 
-pub count-suc : (is : Event → Bool) (es : List Event) (i : ℕ) → i < length es → count is (take (suc i) es) ≡ count is (take i es) + cond (is (eventAt es i)) 1 0
+pub count-suc : (is : Event → Bool) (es : List Event) (i : ℕ) → i < length es → count is (take (suc i) es) ≡ count is (take i es) + cond (is (event_at es i)) 1 0
 unfolding count
 count-suc is [] i h = absurd (omega arith)
 count-suc is (e ∷ es) zero h = omega arith
@@ -33,12 +33,12 @@ one-node : (k : ℕ) → cond (cond (eqb k 0) false true) 1 0 ≡ min k 1
 one-node zero = refl
 one-node (suc k) = rw (ne_eqb (suc k) 0 (λ z. omega arith)) (omega arith)
 
-start-at : (es : List Event) (j : ℕ) → isStart (eventAt es j) ≡ true → StartAt es j
+start-at : (es : List Event) (j : ℕ) → is_start (event_at es j) ≡ true → StartAt es j
 start-at es j s = by (ltb j (length es)) refl
   where
     by : (t : Bool) → ltb j (length es) ≡ t → StartAt es j
     by true t = record { inside = ltb-true j (length es) t; start = s }
-    by false t = apart (sym (ap isStart (get_or-eq_default es (NoEvent 0 0) (ltb-false j (length es) t))) ∙ s)
+    by false t = apart (sym (ap is_start (get_or-eq_default es (NoEvent 0 0) (ltb-false j (length es) t))) ∙ s)
 
 -- ---- events that words say: sound, or none
 
@@ -59,21 +59,21 @@ kept a b = by (decode a b) refl
     by (Error c x f) q = rw q at (decode-sound a b (λ z. let y : ◌≡◌ {A = ℕ} 0 1 = cc in omega arith))
     by (NoEvent x y) q = tt
 
-pub kept_at : (ws : List ℕ) (i : ℕ) → Kept (eventAt (eventsOf ws) i)
-kept_at ws i = by (ltb i (length (eventsOf ws))) refl
+pub kept_at : (ws : List ℕ) (i : ℕ) → Kept (event_at (events_of ws) i)
+kept_at ws i = by (ltb i (length (events_of ws))) refl
   where
-    by : (t : Bool) → ltb i (length (eventsOf ws)) ≡ t → Kept (eventAt (eventsOf ws) i)
-    by true t = rw (← event-index ws i (omega (arith, ltb-true i (length (eventsOf ws)) t, length-events ws))) (kept _ _)
-    by false t = rw (get_or-eq_default (eventsOf ws) (NoEvent 0 0) (ltb-false i (length (eventsOf ws)) t)) tt
+    by : (t : Bool) → ltb i (length (events_of ws)) ≡ t → Kept (event_at (events_of ws) i)
+    by true t = rw (← event-index ws i (omega (arith, ltb-true i (length (events_of ws)) t, length-events ws))) (kept _ _)
+    by false t = rw (get_or-eq_default (events_of ws) (NoEvent 0 0) (ltb-false i (length (events_of ws)) t)) tt
 
 -- a pair of words is an event exactly where it is the words of a sound one
-pub event-said : (ws : List ℕ) (i : ℕ) → i < length ws / eventWords → Sound (eventAt (eventsOf ws) i) → Said ws i
+pub event-said : (ws : List ℕ) (i : ℕ) → i < length ws / event_words → Sound (event_at (events_of ws) i) → Said ws i
 event-said ws i h s =
-    record { event = eventAt (eventsOf ws) i; sound = s; pair = ap encode (sym (event-index ws i h)) ∙ encode-decode (get_or ws (eventWords * i) 0) (get_or ws (eventWords * i + 1) 0) }
+    record { event = event_at (events_of ws) i; sound = s; pair = ap encode (sym (event-index ws i h)) ∙ encode-decode (get_or ws (event_words * i) 0) (get_or ws (event_words * i + 1) 0) }
 
-pub said-event : (ws : List ℕ) (i : ℕ) → i < length ws / eventWords → Said ws i → Sound (eventAt (eventsOf ws) i)
+pub said-event : (ws : List ℕ) (i : ℕ) → i < length ws / event_words → Said ws i → Sound (event_at (events_of ws) i)
 said-event ws i h s =
-    let e : decode (get_or ws (eventWords * i) 0) (get_or ws (eventWords * i + 1) 0) ≡ s.event = sym (ap (λ (w : Words). decode w.first w.second) s.pair) ∙ decode-encode s.event s.sound in
+    let e : decode (get_or ws (event_words * i) 0) (get_or ws (event_words * i + 1) 0) ≡ s.event = sym (ap (λ (w : Words). decode w.first w.second) s.pair) ∙ decode-encode s.event s.sound in
     rw (← event-index ws i h, e) s.sound
 
 -- ---- what an event comes to
@@ -82,20 +82,20 @@ data Met (es : List Event) (i : ℕ) : Next → Type 0 where
   on : (p : ℕ) → Right es i → closed es (suc i) + p ≡ opened es (suc i) → Met es i (Open p)
   off : Wrong es i → Met es i Fault
 
-meets : (es : List Event) (i o : ℕ) → i < length es → Kept (eventAt es i) → closed es i + o ≡ opened es i → Met es i (next (eventAt es i) o (drop (suc i) es))
+meets : (es : List Event) (i o : ℕ) → i < length es → Kept (event_at es i) → closed es i + o ≡ opened es i → Met es i (next (event_at es i) o (drop (suc i) es))
 unfolding next
-meets es i o h s c = by (eventAt es i) o refl c
+meets es i o h s c = by (event_at es i) o refl c
   where
-    opens : (e : Event) → eventAt es i ≡ e → opened es (suc i) ≡ opened es i + cond (isNode e) 1 0
-    opens e q = count-suc isNode es i h ∙ ap (λ (x : Event). opened es i + cond (isNode x) 1 0) q
+    opens : (e : Event) → event_at es i ≡ e → opened es (suc i) ≡ opened es i + cond (is_node e) 1 0
+    opens e q = count-suc is_node es i h ∙ ap (λ (x : Event). opened es i + cond (is_node x) 1 0) q
 
-    closes : (e : Event) → eventAt es i ≡ e → closed es (suc i) ≡ closed es i + cond (isFinish e) 1 0
-    closes e q = count-suc isFinish es i h ∙ ap (λ (x : Event). closed es i + cond (isFinish x) 1 0) q
+    closes : (e : Event) → event_at es i ≡ e → closed es (suc i) ≡ closed es i + cond (is_finish e) 1 0
+    closes e q = count-suc is_finish es i h ∙ ap (λ (x : Event). closed es i + cond (is_finish x) 1 0) q
 
-    right : (e : Event) → eventAt es i ≡ e → Sound e → ((distance e ≡ 0 → ⊥) → StartAt es (i + distance e)) → closed es (suc i) ≤ opened es (suc i) → Right es i
+    right : (e : Event) → event_at es i ≡ e → Sound e → ((distance e ≡ 0 → ⊥) → StartAt es (i + distance e)) → closed es (suc i) ≤ opened es (suc i) → Right es i
     right e q a l d = record { event = rw q a; lands = rw q l; depth = d }
 
-    by : (e : Event) (o : ℕ) → eventAt es i ≡ e → closed es i + o ≡ opened es i → Met es i (next e o (drop (suc i) es))
+    by : (e : Event) (o : ℕ) → event_at es i ≡ e → closed es i + o ≡ opened es i → Met es i (next e o (drop (suc i) es))
     by (Start k d) o q c =
         let a : opened es (suc i) ≡ opened es i + min k 1 = opens (Start k d) q ∙ ap (λ (x : ℕ). opened es i + x) (one-node k) in
         let b : closed es (suc i) ≡ closed es i + 0 = closes (Start k d) q in
@@ -131,7 +131,7 @@ unfolding scan
 ended es i zero q r c = rw q (fine (record { right = λ j l. r j (omega arith); zero = omega (arith, rw q at c) }))
 ended es i (suc o) q r c = rw q (stuck (length es) (unclosed (λ j l. r j (omega arith)) (omega (arith, rw q at c))))
 
-scans : (es : List Event) → ((j : ℕ) → Kept (eventAt es j)) → (m i o : ℕ) → m + i ≡ length es → ((j : ℕ) → j < i → Right es j) → closed es i + o ≡ opened es i
+scans : (es : List Event) → ((j : ℕ) → Kept (event_at es j)) → (m i o : ℕ) → m + i ≡ length es → ((j : ℕ) → j < i → Right es j) → closed es i + o ≡ opened es i
     → Scanned es (scan (drop i es) i o)
 unfolding scan
 scans es s zero i o e r c = let l : length es ≤ i = omega arith in rw (drop_of_length-le es l) (ended es i o (omega arith) r c)
@@ -140,15 +140,15 @@ scans es s (suc m) i o e r c =
     rw (drop-cons es i (NoEvent 0 0) h) (go h (λ p R d. scans es s m (suc i) p (omega arith) (upto (Right es) i r R) d) _ (meets es i o h (s i) c))
   where
     go : i < length es → ((p : ℕ) → Right es i → closed es (suc i) + p ≡ opened es (suc i) → Scanned es (scan (drop (suc i) es) (suc i) p)) → (x : Next) → Met es i x
-        → Scanned es (onNext x (λ p. scan (drop (suc i) es) (suc i) p) (says 9 i))
+        → Scanned es (on_next x (λ p. scan (drop (suc i) es) (suc i) p) (says 9 i))
     go h ih x (on p R d) = ih p R d
     go h ih x (off w) = stuck i (first i h r w)
 
-pub scanned : (ws : List ℕ) → Scanned (eventsOf ws) (scan (eventsOf ws) 0 0)
+pub scanned : (ws : List ℕ) → Scanned (events_of ws) (scan (events_of ws) 0 0)
 unfolding count
 scanned ws =
-    let z : length (eventsOf ws) + 0 ≡ length (eventsOf ws) = omega arith in
-    scans (eventsOf ws) (kept_at ws) (length (eventsOf ws)) 0 0 z (λ j l. absurd (omega arith)) refl
+    let z : length (events_of ws) + 0 ≡ length (events_of ws) = omega arith in
+    scans (events_of ws) (kept_at ws) (length (events_of ws)) 0 0 z (λ j l. absurd (omega arith)) refl
 
 -- ---- right and wrong exclude one another, and there is one first fault
 

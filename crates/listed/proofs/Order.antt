@@ -14,13 +14,13 @@ use Rattle.records.specs.declared.Step.{Step}
 use Rattle.records.specs.declared.Step.TheVariants.{Enter as enter, Error as error, Expected as expected}
 use Rattle.own.specs.Own.{enters}
 use Rattle.turns.specs.Process.{Placed, placed, Parent, follow, entered, turn, turns, process}
-use Rattle.listed.specs.Shape.{isEnter, others, plain}
+use Rattle.listed.specs.Shape.{is_enter, others, plain}
 use Rattle.events.proofs.Running.{length-turn}
 
 others-append : (r s : List Placed) → others (r ++ s) ≡ others r ++ others s
 unfolding others
 others-append [] s = refl
-others-append (x ∷ r) s = go (isEnter x.step) (others-append r s)
+others-append (x ∷ r) s = go (is_enter x.step) (others-append r s)
   where
     go : (t : Bool) → others (r ++ s) ≡ others r ++ others s → cond t (others (r ++ s)) (x ∷ others (r ++ s)) ≡ cond t (others r) (x ∷ others r) ++ others s
     go true e = e

@@ -16,7 +16,7 @@ use Rattle.records.specs.declared.Step.{Step}
 use Rattle.records.specs.declared.Step.TheVariants.{Enter as enter, Leave as leave, Token as token, Error as error, Expected as expected}
 use Rattle.own.specs.Own.{enters, reports, own}
 use Rattle.turns.specs.Process.{Placed, placed, Parent, follow, entered, turn, turns, process, steps_of}
-use Rattle.listed.specs.Shape.{from, entersTombstone}
+use Rattle.listed.specs.Shape.{from, enters_tombstone}
 use Rattle.events.proofs.Running.{length-turn}
 
 -- the steps from a place: of steps that come from one place, and of several
@@ -145,8 +145,8 @@ own-once es i =
     asked-turns i (length es) 0 es refl ∙ rw z at (asked-at 0 es i)
 
 -- no tombstone is entered
-tombs-append : (r s : List Step) → entersTombstone r ≡ false → entersTombstone s ≡ false → entersTombstone (r ++ s) ≡ false
-unfolding entersTombstone
+tombs-append : (r s : List Step) → enters_tombstone r ≡ false → enters_tombstone s ≡ false → enters_tombstone (r ++ s) ≡ false
+unfolding enters_tombstone
 tombs-append [] s a b = b
 tombs-append (enter zero ∷ r) s a b = a
 tombs-append (enter (suc k) ∷ r) s a b = tombs-append r s a b
@@ -155,30 +155,30 @@ tombs-append (token k n ∷ r) s a b = tombs-append r s a b
 tombs-append (error c x ∷ r) s a b = tombs-append r s a b
 tombs-append (expected k f ∷ r) s a b = tombs-append r s a b
 
-tombs-enters : (p k : ℕ) → entersTombstone (steps_of (placed p (enters k))) ≡ false
-unfolding entersTombstone
+tombs-enters : (p k : ℕ) → enters_tombstone (steps_of (placed p (enters k))) ≡ false
+unfolding enters_tombstone
 tombs-enters p zero = refl
 tombs-enters p (suc k) = rw (ne_eqb (suc k) 0 (λ z. omega arith))
 
-tombs-entered : (xs : List Parent) → entersTombstone (steps_of (entered xs)) ≡ false
-unfolding entered entersTombstone
+tombs-entered : (xs : List Parent) → enters_tombstone (steps_of (entered xs)) ≡ false
+unfolding entered enters_tombstone
 tombs-entered [] = refl
 tombs-entered (x ∷ xs) = rw map-append (tombs-append (steps_of (entered xs)) (steps_of (placed x.place (enters x.kind))) (tombs-entered xs) (tombs-enters x.place x.kind))
 
-tombs-turn : (p : ℕ) (e : Event) (es : List Event) → entersTombstone (steps_of (turn p e es).steps) ≡ false
-unfolding turn entersTombstone
+tombs-turn : (p : ℕ) (e : Event) (es : List Event) → enters_tombstone (steps_of (turn p e es).steps) ≡ false
+unfolding turn enters_tombstone
 tombs-turn p (Start k d) es = tombs-entered (record { place = p; kind = k } ∷ (follow (suc p) es d).parents)
 tombs-turn p Finish es = refl
 tombs-turn p (Token k n) es = refl
-tombs-turn p (Error c x f) es = by-test (λ (s : Step). entersTombstone (s ∷ []) ≡ false) (eqb c 1) (expected x f) (error c x) (λ _. refl) (λ _. refl)
+tombs-turn p (Error c x f) es = by-test (λ (s : Step). enters_tombstone (s ∷ []) ≡ false) (eqb c 1) (expected x f) (error c x) (λ _. refl) (λ _. refl)
 tombs-turn p (NoEvent a b) es = refl
 
-tombs-turns : (n p : ℕ) (es : List Event) → entersTombstone (steps_of (turns n p es).steps) ≡ false
-unfolding turns entersTombstone
+tombs-turns : (n p : ℕ) (es : List Event) → enters_tombstone (steps_of (turns n p es).steps) ≡ false
+unfolding turns enters_tombstone
 tombs-turns zero p [] = refl
 tombs-turns zero p (e ∷ es) = refl
 tombs-turns (suc n) p [] = refl
 tombs-turns (suc n) p (e ∷ es) = rw map-append (tombs-append (steps_of (turn p e es).steps) (steps_of (turns n (suc p) (turn p e es).left).steps) (tombs-turn p e es) (tombs-turns n (suc p) (turn p e es).left))
 
-pub no-tombstone : (es : List Event) → entersTombstone (steps_of (process es).steps) ≡ false
+pub no-tombstone : (es : List Event) → enters_tombstone (steps_of (process es).steps) ≡ false
 no-tombstone es = tombs-turns (length es) 0 es

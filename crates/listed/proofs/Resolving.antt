@@ -9,7 +9,7 @@ use lib.ListN.{length, replicate}
 use borrow.Author.Tests.{ne_eqb, ltb-true, ltb-false}
 use Rattle.event.specs.declared.Event.{Event}
 use Rattle.event.specs.declared.Event.TheVariants.{Start, Finish, Token, Error, NoEvent}
-use Rattle.event.specs.Event.{eventsOf, words_of, tombstone, isToken}
+use Rattle.event.specs.Event.{events_of, words_of, tombstone, is_token}
 use Rattle.records.specs.declared.Step.TheVariants.{Error as error, Expected as expected}
 use Rattle.records.specs.Record.{bytes, over}
 use Rattle.lists.specs.Answer.{Numbers, says}
@@ -19,8 +19,8 @@ use Rattle.turns.specs.Process.{process, file}
 use Rattle.events.specs.Resolve.{Outcome, ends, resolved}
 use Rattle.events.proofs.Outcomes as O
 use Rattle.events.proofs.Passing.{process-need}
-use Rattle.listed.specs.WellFormed.{isNode, isFinish, count}
-use Rattle.listed.specs.Conditions.{isExpected, isError, needed, Faulty, Refused, Refused.list, Refused.small, First, Checks, Checks.passes, Checks.fails, Resolves, Resolves.done, Resolves.refuses}
+use Rattle.listed.specs.WellFormed.{is_node, is_finish, count}
+use Rattle.listed.specs.Conditions.{is_expected, is_error, needed, Faulty, Refused, Refused.list, Refused.small, First, Checks, Checks.passes, Checks.fails, Resolves, Resolves.done, Resolves.refuses}
 use Rattle.listed.proofs.Theorems.{passing-resolves}
 use Rattle.listed.proofs.Checking as C
 use Rattle.listed.proofs.Checking.{agree, faulty-number, faulty-once}
@@ -37,7 +37,7 @@ need-counted (Error c x f ∷ es) = by (eqb c 1) (need-counted es)
   where
     by : (t : Bool) → need es ≡ needed es
         → length (bytes (cond t (expected x f) (error c x) ∷ [])) + need es
-        ≡ 6 * (0 + count isNode es) + 4 * (0 + count isFinish es) + 7 * (0 + count isToken es) + 8 * (cond (not t) 1 0 + count isError es) + 10 * (cond t 1 0 + count isExpected es)
+        ≡ 6 * (0 + count is_node es) + 4 * (0 + count is_finish es) + 7 * (0 + count is_token es) + 8 * (cond (not t) 1 0 + count is_error es) + 10 * (cond t 1 0 + count is_expected es)
     by true h = omega (arith, h)
     by false h = omega (arith, h)
 need-counted (NoEvent a b ∷ es) = omega (arith, need-counted es)
@@ -61,22 +61,22 @@ module _ (ws out : List ℕ) where
   pub verdict : Resolves ws out (resolved ws out)
   verdict = by (checked ws) (C.verdict ws) refl
     where
-      small-room : ((n p : ℕ) → Faulty ws n p → ⊥) → length out < needed (eventsOf ws) → First (Refused ws out) 10 (needed (eventsOf ws))
+      small-room : ((n p : ℕ) → Faulty ws n p → ⊥) → length out < needed (events_of ws) → First (Refused ws out) 10 (needed (events_of ws))
       small-room none l = record { holds = small l; before = before }
         where
           before : (m q : ℕ) → m < 10 → Refused ws out m q → ⊥
           before m q k (list a b x) = none a b x
           before m q k (small h) = omega arith
 
-      room : (checked ws).code ≡ 0 → ((n p : ℕ) → Faulty ws n p → ⊥) → (t : Bool) → ltb (length out) (needed (eventsOf ws)) ≡ t → Resolves ws out (resolved ws out)
+      room : (checked ws).code ≡ 0 → ((n p : ℕ) → Faulty ws n p → ⊥) → (t : Bool) → ltb (length out) (needed (events_of ws)) ≡ t → Resolves ws out (resolved ws out)
       room z none true t =
-          let l : length out < needed (eventsOf ws) = ltb-true (length out) (needed (eventsOf ws)) t in
-          rw (O.short ws out z (needed (eventsOf ws)) (sym (need-counted (eventsOf ws))) (rw need-counted l)) (refuses 10 (needed (eventsOf ws)) (small-room none l))
+          let l : length out < needed (events_of ws) = ltb-true (length out) (needed (events_of ws)) t in
+          rw (O.short ws out z (needed (events_of ws)) (sym (need-counted (events_of ws))) (rw need-counted l)) (refuses 10 (needed (events_of ws)) (small-room none l))
       room z none false t =
-          let l : needed (eventsOf ws) ≤ length out = ltb-false (length out) (needed (eventsOf ws)) t in
+          let l : needed (events_of ws) ≤ length out = ltb-false (length out) (needed (events_of ws)) t in
           rw (passing-resolves ws z out (rw need-counted l), need-counted) (done (clear l))
         where
-          clear : needed (eventsOf ws) ≤ length out → (n p : ℕ) → Refused ws out n p → ⊥
+          clear : needed (events_of ws) ≤ length out → (n p : ℕ) → Refused ws out n p → ⊥
           clear l n p (list a b x) = none a b x
           clear l n p (small h) = omega arith
 
@@ -88,7 +88,7 @@ module _ (ws out : List ℕ) where
           before m q l (small h) = omega (arith, (faulty-number ws n p f.holds).1)
 
       by : (a : Numbers) → Checks ws a → a ≡ checked ws → Resolves ws out (resolved ws out)
-      by a (passes none) e = room (ap (λ (x : Numbers). x.code) (sym e)) none (ltb (length out) (needed (eventsOf ws))) refl
+      by a (passes none) e = room (ap (λ (x : Numbers). x.code) (sym e)) none (ltb (length out) (needed (events_of ws))) refl
       by a (fails n p f) e = rw (O.refuses ws out (says n p) e (λ z. omega (arith, (faulty-number ws n p f.holds).0))) (refuses n p (first n p f))
 
   -- What holds is what it says and leaves.
@@ -107,7 +107,7 @@ module _ (ws out : List ℕ) where
     where
       by : (a : Outcome) → Resolves ws out a → a ≡ ends (says n p) ws₁ out₁ → First (Refused ws out) n p × (ws₁ ≡ ws) × (out₁ ≡ out)
       by a (done h) e =
-          let r : says 0 (needed (eventsOf ws)) ≡ says n p = cc in
+          let r : says 0 (needed (events_of ws)) ≡ says n p = cc in
           absurd (z (sym (ap (λ (x : Numbers). x.code) r)))
       by a (refuses m q f) e =
           let r : says m q ≡ says n p = cc in
@@ -117,13 +117,13 @@ module _ (ws out : List ℕ) where
 
   -- done exactly where no condition holds: the bytes are said, tombstones and the step file are left
   pub done-when : (p : ℕ) (ws₁ out₁ : List ℕ) → resolved ws out ≡ ends (says 0 p) ws₁ out₁
-      → ((n q : ℕ) → Refused ws out n q → ⊥) × (p ≡ needed (eventsOf ws)) × (ws₁ ≡ words_of (replicate (length (eventsOf ws)) tombstone)) × (out₁ ≡ over out 0 (file (process (eventsOf ws)).steps))
+      → ((n q : ℕ) → Refused ws out n q → ⊥) × (p ≡ needed (events_of ws)) × (ws₁ ≡ words_of (replicate (length (events_of ws)) tombstone)) × (out₁ ≡ over out 0 (file (process (events_of ws)).steps))
   done-when p ws₁ out₁ e = by (resolved ws out) verdict e
     where
       by : (a : Outcome) → Resolves ws out a → a ≡ ends (says 0 p) ws₁ out₁
-          → ((n q : ℕ) → Refused ws out n q → ⊥) × (p ≡ needed (eventsOf ws)) × (ws₁ ≡ words_of (replicate (length (eventsOf ws)) tombstone)) × (out₁ ≡ over out 0 (file (process (eventsOf ws)).steps))
+          → ((n q : ℕ) → Refused ws out n q → ⊥) × (p ≡ needed (events_of ws)) × (ws₁ ≡ words_of (replicate (length (events_of ws)) tombstone)) × (out₁ ≡ over out 0 (file (process (events_of ws)).steps))
       by a (done h) e =
-          let r : says 0 (needed (eventsOf ws)) ≡ says 0 p = cc in
+          let r : says 0 (needed (events_of ws)) ≡ says 0 p = cc in
           (h, sym (ap (λ (x : Numbers). x.place) r), cc, cc)
       by a (refuses m q f) e =
           let r : says m q ≡ says 0 p = cc in

@@ -12,7 +12,7 @@ use Rattle.lists.specs.declared.Answer.{Answer}
 use Rattle.lists.specs.declared.Answer.TheVariants.{Done, TooLong, Faulty, NoRoom}
 use Rattle.event.specs.declared.Event.{Event}
 use Rattle.event.specs.declared.Event.TheVariants.{Start, NoEvent}
-use Rattle.event.specs.Event.{eventsOf, words_of, tombstone}
+use Rattle.event.specs.Event.{events_of, words_of, tombstone}
 use Rattle.laws.proofs.Tests.{by-test}
 use Rattle.records.specs.declared.Step.TheVariants.{Enter as enter}
 use Rattle.records.specs.Record.{over}
@@ -64,14 +64,14 @@ resolve-unique ws out a b ws₁ ws₂ out₁ out₂ p q =
 
 module _ (ws : List ℕ) (passes : (checked ws).code ≡ 0) where
   -- a list that passes resolves, given enough room: the need is said, tombstones and the step file are left
-  pub passing-resolves : (out : List ℕ) → need (eventsOf ws) ≤ length out
+  pub passing-resolves : (out : List ℕ) → need (events_of ws) ≤ length out
       → resolved ws out
-      ≡ ends (says 0 (need (eventsOf ws))) (words_of (replicate (length (eventsOf ws)) tombstone)) (over out 0 (file (process (eventsOf ws)).steps))
-  passing-resolves out h = rw (← turns-left (length (eventsOf ws)) 0 (eventsOf ws) refl) (resolves ws out passes h)
+      ≡ ends (says 0 (need (events_of ws))) (words_of (replicate (length (events_of ws)) tombstone)) (over out 0 (file (process (events_of ws)).steps))
+  passing-resolves out h = rw (← turns-left (length (events_of ws)) 0 (events_of ws) refl) (resolves ws out passes h)
 
   -- its steps start and end at depth 0 and are never below
-  pub passing-closes : closes 0 (steps_of (process (eventsOf ws)).steps) ≡ true
-  passing-closes = scan-closes (eventsOf ws) (passed-scan ws passes)
+  pub passing-closes : closes 0 (steps_of (process (events_of ws)).steps) ≡ true
+  passing-closes = scan-closes (events_of ws) (passed-scan ws passes)
 
 -- no resolution panics: a list is refused, or `process` runs on it to the end
 an-end : (a : Numbers) (w o : List ℕ) → ends a w o ≡ panics → ⊥
@@ -82,10 +82,10 @@ unfolding resolved
 never-panics ws out =
     by-test (λ x. x ≡ panics → ⊥) (eqb (checked ws).code 0) _ _ passing (λ _. an-end _ _ _)
   where
-    passing : eqb (checked ws).code 0 ≡ true → settled ws out (process (eventsOf ws)) ≡ panics → ⊥
+    passing : eqb (checked ws).code 0 ≡ true → settled ws out (process (events_of ws)) ≡ panics → ⊥
     passing t =
         rw (passed-sound ws (eqb-true (checked ws).code 0 t))
-        (by-test (λ x. x ≡ panics → ⊥) (ltb (length out) (length (file (process (eventsOf ws)).steps))) _ _ (λ _. an-end _ _ _) (λ _. an-end _ _ _))
+        (by-test (λ x. x ≡ panics → ⊥) (ltb (length out) (length (file (process (events_of ws)).steps))) _ _ (λ _. an-end _ _ _) (λ _. an-end _ _ _))
 
 -- Each start with a kind is entered exactly once, and nothing else comes from its place. From a tombstone's comes nothing at all.
 pub entered-once : (es : List Event) (i k d : ℕ) → get_or es i (NoEvent 0 0) ≡ Start k d → (k ≡ 0 → ⊥) → from i (process es).steps ≡ enter k ∷ []

@@ -4,7 +4,7 @@ use Rattle.std.specs.Prelude.{ℕ, zero, suc, ◌<◌, ◌≡◌, refl, List, []
 use Rattle.std.proofs.Common.{arith, sym, true≢false}
 use Rattle.event.specs.declared.Event.{Event}
 use Rattle.event.specs.declared.Event.TheVariants.{Start, Finish, Token, Error, NoEvent}
-use Rattle.event.specs.Event.{encode, decode, eventsOf, words_of, tombstone}
+use Rattle.event.specs.Event.{encode, decode, events_of, words_of, tombstone}
 use Rattle.listed.specs.WellFormed.{count, opened, closed, Right, Wrong.no-event, Wrong.astray, Wrong.below, WellFormed, Fault, Fault.first, Fault.unclosed}
 use Rattle.listed.specs.Conditions.{needed, Faulty, Faulty.odd, Refused, Refused.small}
 
@@ -83,5 +83,5 @@ odd-word = odd (λ z. omega arith)
 
 -- the listing, with one byte too few for its steps
 small-room : Refused (words_of listing) (replicate 50 170) 10 51
-unfolding count encode decode eventsOf words_of
+unfolding count encode decode events_of words_of
 small-room = small (omega arith)

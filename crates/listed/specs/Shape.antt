@@ -1,7 +1,7 @@
 -- What the steps of a run are held against: their depth, the events that they come from, and their order.
 use Rattle.std.specs.Prelude.{ℕ, zero, suc, Bool, true, false, cond, List, [], ◌∷◌, ◌++◌, eqb}
 use Rattle.event.specs.declared.Event.{Event}
-use Rattle.event.specs.Event.{isStart}
+use Rattle.event.specs.Event.{is_start}
 use Rattle.records.specs.declared.Step.{Step}
 use Rattle.records.specs.declared.Step.TheVariants.{Enter as enter, Leave as leave, Token as token, Error as error, Expected as expected}
 use Rattle.own.specs.Own.{own}
@@ -24,27 +24,27 @@ from i [] = []
 from i (s ∷ ss) = cond (eqb s.place i) (s.step ∷ from i ss) (from i ss)
 
 -- whether a tombstone is entered
-unfoldable pub entersTombstone : List Step → Bool
-entersTombstone [] = false
-entersTombstone (enter zero ∷ ss) = true
-entersTombstone (enter (suc k) ∷ ss) = entersTombstone ss
-entersTombstone (leave ∷ ss) = entersTombstone ss
-entersTombstone (token k n ∷ ss) = entersTombstone ss
-entersTombstone (error c x ∷ ss) = entersTombstone ss
-entersTombstone (expected k f ∷ ss) = entersTombstone ss
+unfoldable pub enters_tombstone : List Step → Bool
+enters_tombstone [] = false
+enters_tombstone (enter zero ∷ ss) = true
+enters_tombstone (enter (suc k) ∷ ss) = enters_tombstone ss
+enters_tombstone (leave ∷ ss) = enters_tombstone ss
+enters_tombstone (token k n ∷ ss) = enters_tombstone ss
+enters_tombstone (error c x ∷ ss) = enters_tombstone ss
+enters_tombstone (expected k f ∷ ss) = enters_tombstone ss
 
-abbrev pub isEnter : Step → Bool
-isEnter (enter k) = true
-isEnter leave = false
-isEnter (token k n) = false
-isEnter (error c x) = false
-isEnter (expected k f) = false
+abbrev pub is_enter : Step → Bool
+is_enter (enter k) = true
+is_enter leave = false
+is_enter (token k n) = false
+is_enter (error c x) = false
+is_enter (expected k f) = false
 
 -- the steps that are no enter, and those that the events from place p on ask for, in the list's order
 unfoldable pub others : List Placed → List Placed
 others [] = []
-others (s ∷ ss) = cond (isEnter s.step) (others ss) (s ∷ others ss)
+others (s ∷ ss) = cond (is_enter s.step) (others ss) (s ∷ others ss)
 
 unfoldable pub plain : ℕ → List Event → List Placed
 plain p [] = []
-plain p (e ∷ es) = cond (isStart e) [] (placed p (own e)) ++ plain (suc p) es
+plain p (e ∷ es) = cond (is_start e) [] (placed p (own e)) ++ plain (suc p) es

@@ -10,18 +10,18 @@ use lib.Seq.{drop-cons, get_or-drop}
 use borrow.Author.Tests.{eq-eqb, ne_eqb, lt-ltb, le-ltb}
 use Rattle.event.specs.declared.Event.{Event}
 use Rattle.event.specs.declared.Event.TheVariants.{Start, Finish, Token, Error, NoEvent}
-use Rattle.event.specs.Event.{eventsOf, isStart}
+use Rattle.event.specs.Event.{events_of, is_start}
 use Rattle.lists.specs.Answer.{says}
 use Rattle.lists.specs.Check.{Next.Open, Next.Fault, lands, next, scan, checked}
 use Rattle.own.specs.Own.{cost, need}
 
 -- where a distance lands, by its index
-pub lands-index : (es : List Event) (i d : ℕ) → (d ≡ 0 → ⊥) → isStart (get_or es (i + d) (NoEvent 0 0)) ≡ lands (drop (suc i) es) d
+pub lands-index : (es : List Event) (i d : ℕ) → (d ≡ 0 → ⊥) → is_start (get_or es (i + d) (NoEvent 0 0)) ≡ lands (drop (suc i) es) d
 lands-index es i zero n = absurd (n refl)
 lands-index es i (suc d) n = let e : i + suc d ≡ suc i + d = omega arith in rw (e, get_or-drop)
 
 pub lands-past : (es : List Event) (i d : ℕ) → (d ≡ 0 → ⊥) → length es ≤ i + d → false ≡ lands (drop (suc i) es) d
-lands-past es i d n h = ap isStart (sym (get_or-eq_default es (NoEvent 0 0) h)) ∙ lands-index es i d n
+lands-past es i d n h = ap is_start (sym (get_or-eq_default es (NoEvent 0 0) h)) ∙ lands-index es i d n
 
 -- an event opens one node at most
 pub next-bound : (x : Event) (o p : ℕ) (es : List Event) → next x o es ≡ Open p → p ≤ o + 1
@@ -68,7 +68,7 @@ module _ (ws : List ℕ) where
   unfolding checked
   checked-odd h n = rw (le-ltb _ _ h, ne_eqb _ _ n)
 
-  pub checked-list : length ws / 2 ≤ 65536 → length ws % 2 ≡ 0 → scan (eventsOf ws) 0 0 ≡ checked ws
+  pub checked-list : length ws / 2 ≤ 65536 → length ws % 2 ≡ 0 → scan (events_of ws) 0 0 ≡ checked ws
   unfolding checked
   checked-list h e = rw (le-ltb _ _ h, eq-eqb _ _ e)
 

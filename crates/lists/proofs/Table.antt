@@ -10,7 +10,7 @@ use lib.ListN.{length, get_or, drop, get_or-eq_default}
 use borrow.Author.Tests.{eqb-true, eqb-false, ne_eqb, le-ltb, le-leb, lt-leb, leb-true, leb-false}
 use Rattle.event.specs.declared.Event.{Event}
 use Rattle.event.specs.declared.Event.TheVariants.{Start, Finish, Token, Error, NoEvent}
-use Rattle.event.specs.Event.{decode, eventsOf, isStart, distance}
+use Rattle.event.specs.Event.{decode, events_of, is_start, distance}
 use Rattle.laws.proofs.Tests.{by-test}
 use Rattle.event.proofs.Rooms.{event-index}
 use Rattle.event.proofs.Encoding.{say-start, say-other}
@@ -118,24 +118,24 @@ traits-at a class n l h e q b s =
 -- ---- what two words say
 
 -- whether a start stands there, by the product that the code has
-astray : (a b d : ℕ) → a < 4294967296 → eqb (suc d * ((a / 65536 + 65535) % 65536)) 0 ≡ isStart (decode a b)
+astray : (a b d : ℕ) → a < 4294967296 → eqb (suc d * ((a / 65536 + 65535) % 65536)) 0 ≡ is_start (decode a b)
 astray a b d h = go ((a / 65536 + 65535) % 65536) refl
   where
-    go : (x : ℕ) → (a / 65536 + 65535) % 65536 ≡ x → eqb (suc d * ((a / 65536 + 65535) % 65536)) 0 ≡ isStart (decode a b)
+    go : (x : ℕ) → (a / 65536 + 65535) % 65536 ≡ x → eqb (suc d * ((a / 65536 + 65535) % 65536)) 0 ≡ is_start (decode a b)
     go zero e =
         let z : suc d * 0 ≡ 0 = omega arith in
         rw (e, say-start a b (omega arith), z)
     go (suc x) e = rw (e, (say-other a b (λ q. omega arith)).0) (ne_eqb (suc d * suc x) 0 (λ z. omega arith))
 
 pub lands-astray : (ws : List ℕ) (i d : ℕ) → i + d < length ws / 2 → get_or ws (2 * (i + d)) 0 < 4294967296
-    → eqb (d * ((get_or ws (2 * (i + d)) 0 / 65536 + 65535) % 65536)) 0 ≡ lands (drop (suc i) (eventsOf ws)) d
+    → eqb (d * ((get_or ws (2 * (i + d)) 0 / 65536 + 65535) % 65536)) 0 ≡ lands (drop (suc i) (events_of ws)) d
 lands-astray ws i zero h l =
     let z : 0 * ((get_or ws (2 * (i + 0)) 0 / 65536 + 65535) % 65536) ≡ 0 = omega arith in
     rw z
 lands-astray ws i (suc d) h l =
     astray (get_or ws (2 * (i + suc d)) 0) (get_or ws (2 * (i + suc d) + 1) 0) d l
-    ∙ ap isStart (event-index ws (i + suc d) h)
-    ∙ lands-index (eventsOf ws) i (suc d) (λ z. omega arith)
+    ∙ ap is_start (event-index ws (i + suc d) h)
+    ∙ lands-index (events_of ws) i (suc d) (λ z. omega arith)
 
 -- ---- the nodes open past an event, by its traits
 
@@ -196,7 +196,7 @@ module _ (o : ℕ) (es : List Event) where
     where
       past : (b : ℕ) → length es < b → lands es b ≡ false
       past zero l = absurd (omega arith)
-      past (suc d) l = ap isStart (get_or-eq_default es (NoEvent 0 0) (omega arith))
+      past (suc d) l = ap is_start (get_or-eq_default es (NoEvent 0 0) (omega arith))
 
 -- no event has so small a first word
 pub tells-out : (a b : ℕ) → a < 65536 → tells (decode a b) ≡ 0

@@ -2,7 +2,7 @@
 use Rattle.std.specs.Prelude.{ℕ, ◌+◌, ◌*◌, ◌/◌, ◌%◌, ◌^◌, ◌<◌, min, ◌≡◌, List, length}
 use Rattle.event.specs.declared.Event.{Event}
 use Rattle.event.specs.declared.Event.TheVariants.{Start, Finish, Token, Error, NoEvent}
-use Rattle.event.specs.Event.{eventWords, decode, eventsOf}
+use Rattle.event.specs.Event.{event_words, decode, events_of}
 use Rattle.lists.specs.declared.Past.{Past}
 use Rattle.lists.specs.declared.Past.TheVariants.{On, Stuck}
 use Rattle.lists.specs.declared.Measured.{Measured}
@@ -37,5 +37,5 @@ PassedAnyway e o r = (es : List Event) → Passed e o es r
 
 -- a list that passes, with the bytes that its events ask for; and the answer to one that does not
 abbrev pub Measures : List ℕ → Measured → Type 0
-Measures ws (Passes size) = (says 0 (length ws / eventWords) ≡ checked ws) × (size ≡ need (eventsOf ws))
+Measures ws (Passes size) = (says 0 (length ws / event_words) ≡ checked ws) × (size ≡ need (events_of ws))
 Measures ws (Fails a) = (numbers a ≡ checked ws) × ((numbers a).code ≡ 0 → ⊥)

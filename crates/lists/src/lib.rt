@@ -1,7 +1,7 @@
 // The check of event lists (docs/RULES.md, section 6), and what its answers say. The resolution, a crate above, makes it first: `measure` is
 // public for that alone.
 ghost use Rattle.std.specs.Prelude.{◌≡◌, false, suc, ◌/◌, ◌<◌, ◌≤◌, min, length, get_or, drop};
-ghost use Rattle.event.specs.Event.{eventWords, eventsOf, none, isStart};
+ghost use Rattle.event.specs.Event.{event_words, events_of, none, is_start};
 ghost use Rattle.lists.specs.Answer.{numbers};
 ghost use Rattle.lists.specs.Check.{lands, checked};
 ghost use Rattle.lists.specs.Inside.{Traits, Passed, PassedAnyway, Measures};
@@ -94,9 +94,9 @@ fn clip(b: u32) -> u32
 
 // Whether distance d from event i is none, or lands on a start in the list.
 fn lands_on(words: &[u32], i: usize, d: u32) -> bool
-    requires i_in_bounds { i < length words.now / eventWords }
+    requires i_in_bounds { i < length words.now / event_words }
     requires d_bound { d ≤ 65535 }
-    ensures { result ≡ lands (drop (suc i) (eventsOf words.now)) d }
+    ensures { result ≡ lands (drop (suc i) (events_of words.now)) d }
 {
     let j = i + d as usize;
     if j >= words.len() / EVENT_WORDS {
@@ -109,7 +109,7 @@ fn lands_on(words: &[u32], i: usize, d: u32) -> bool
 
 // What an event that is no start comes to, with `held` nodes open before it.
 fn pass_plain(e: Event, held: usize) -> Past
-    requires { isStart e ≡ false }
+    requires { is_start e ≡ false }
     ensures { PassedAnyway e held result }
 {
     match e {
@@ -127,10 +127,10 @@ fn pass_plain(e: Event, held: usize) -> Past
 
 // What event i comes to, with `held` nodes open before it.
 fn pass(words: &[u32], i: usize, held: usize) -> Past
-    requires i_in_bounds { i < length words.now / eventWords }
-    requires event_words_len_bound { length words.now / eventWords ≤ 65536 }
+    requires i_in_bounds { i < length words.now / event_words }
+    requires event_words_len_bound { length words.now / event_words ≤ 65536 }
     requires held_le_i { held ≤ i }
-    ensures { Passed (get_or (eventsOf words.now) i none) held (drop (suc i) (eventsOf words.now)) result }
+    ensures { Passed (get_or (events_of words.now) i none) held (drop (suc i) (events_of words.now)) result }
 {
     let a = words[EVENT_WORDS * i];
     let b = words[EVENT_WORDS * i + 1];

@@ -9,10 +9,10 @@ use Rattle.kinds.specs.Membership.{one_of, both}
 use Rattle.runtime.specs.declared.parser.Completed.{Completed}
 use Rattle.runtime.specs.declared.parser.Stop.{Stop}
 use Rattle.runtime.specs.declared.parser.Stop.TheVariants.{Panic}
-use Rattle.runtime.specs.Acts.{Act.takes, Acts, Acts.done, Acts.act, ◌>>=◌, one as only, nth, nthAt, eat, atTs, start, stop, is_refused, bump, bumpAny, error, errorExpected, expect, complete, abandon, precede, extendTo, errRecover, must, goesOn, Turn, Turn.more, Turn.last, iter, rounds, repeats}
+use Rattle.runtime.specs.Acts.{Act.takes, Acts, Acts.done, Acts.act, ◌>>=◌, one as only, nth, nth_at, eat, at_ts, start, stop, is_refused, bump, bump_any, error, error_expected, expect, complete, abandon, precede, extend_to, err_recover, must, goes_on, Turn, Turn.more, Turn.last, iter, rounds, repeats}
 use Rattle.markers.proofs.Marks.{Marker, Marker.fresh, Marker.made, Marker.shut, Marks}
 use Rattle.markers.proofs.Live.{Closes, Closes.one, Closes.other, Closes.there, Drops, Drops.here, Drops.there, Has, Has.here, Has.there, Extends, Extends.here, Extends.there}
-use Rattle.markers.proofs.Safe.{small, ordinary, nodeKind, Handling, Handling.silent, Handling.leaves, Handling.halts, handling, SafeBy, Safe}
+use Rattle.markers.proofs.Safe.{small, ordinary, node_kind, Handling, Handling.silent, Handling.leaves, Handling.halts, handling, SafeBy, Safe}
 
 -- what follows an act, with less asked of it
 follows : {X : Type 0} (c : Handling X) (o : Marks) (S S' : X → Marks → Type 0) → ((x : X) (r : Marks) → S x r → S' x r) → SafeBy c o S → SafeBy c o S'
@@ -130,11 +130,11 @@ extends-in (there c) (keep p) = let u = extends-in c p in (_, there u.1, keep u.
 pub run-start : (us : Marks) → Run us start (λ i. fresh i ∷ us)
 run-start us = record { runs = λ o r p i. (_, refl, keep p) }
 
-pub run-complete : (i k : ℕ) {xs ys : Marks} → T (nodeKind k) → Closes i xs ys → Run xs (complete i k) (λ c. ys)
+pub run-complete : (i k : ℕ) {xs ys : Marks} → T (node_kind k) → Closes i xs ys → Run xs (complete i k) (λ c. ys)
 run-complete i k t c = record { runs = λ o r p x. let u = closes_in c p in (u.0, (t, u.1), u.2) }
 
 -- the newest open marker, whose completed one nobody asks for
-pub finish : (i k : ℕ) {us : Marks} → T (nodeKind k) → Run (fresh i ∷ us) (complete i k) (λ c. us)
+pub finish : (i k : ℕ) {us : Marks} → T (node_kind k) → Run (fresh i ∷ us) (complete i k) (λ c. us)
 finish i k {us} t = lose (complete i k) (λ c. i) (λ c. us) (run-complete i k t one)
 
 pub run-abandon : (i : ℕ) {xs ys : Marks} → Drops i xs ys → Run xs (abandon i) (λ a. ys)
@@ -144,14 +144,14 @@ pub run-precede : (c : Completed) (us : Marks) → Run (shut c.pos ∷ us) (prec
 run-precede c us = record { runs = λ o r p j. (_, (has_in here p, refl), keep (less p)) }
 
 -- a fresh marker up to the completed one before it
-pub run-extend : (c : Completed) (m : ℕ) (us : Marks) → Run (shut c.pos ∷ fresh m ∷ us) (extendTo c m) (λ a. shut a.pos ∷ us)
+pub run-extend : (c : Completed) (m : ℕ) (us : Marks) → Run (shut c.pos ∷ fresh m ∷ us) (extend_to c m) (λ a. shut a.pos ∷ us)
 run-extend c m us = record { runs = λ o r p x. extends-in (here here) p }
 
 -- The others.
 pub run_look : (n : ℕ) → Run [] (nth n) none
 run_look n = record { runs = λ o r p x. p }
 
-pub run_at : (n k : ℕ) → Run [] (nthAt n k) none
+pub run_at : (n k : ℕ) → Run [] (nth_at n k) none
 run_at n k = record { runs = λ o r p b. p }
 
 pub run-eat : (k : ℕ) → Run [] (eat k) none
@@ -166,7 +166,7 @@ run-refused = record { runs = λ o r p b. p }
 pub run-error : (c a : ℕ) → T (both (ordinary c) (small a)) → Run [] (error c a) none
 run-error c a t = record { runs = λ o r p x. (_, (t, refl), p) }
 
-pub run-expected : (k : ℕ) → T (small k) → Run [] (errorExpected k) none
+pub run-expected : (k : ℕ) → T (small k) → Run [] (error_expected k) none
 run-expected k t = record { runs = λ o r p x. (_, (t, refl), p) }
 
 -- after a stop nothing is asked
@@ -178,16 +178,16 @@ pub run-stop-last : (w : Stop) (xs : Marks) (ys : Unit {0} → Marks) → Run xs
 run-stop-last w xs ys = record { runs = λ o r p. tt }
 
 -- The operations that are made of these.
-pub run-at-ts : (set : List ℕ) → Run [] (atTs set) none
-unfolding atTs
+pub run-at-ts : (set : List ℕ) → Run [] (at_ts set) none
+unfolding at_ts
 run-at-ts set = also _ _ (run_look 0) (λ k. ends _ none)
 
 pub run-bump : (k : ℕ) → Run [] (bump k) none
 unfolding bump
 run-bump k = also _ _ (run-eat k) (λ b. if b _ _ (ends tt none) (run-stop-last Panic [] none))
 
-pub run-bump-any : Run [] bumpAny none
-unfolding bumpAny
+pub run-bump-any : Run [] bump_any none
+unfolding bump_any
 run-bump-any = also _ _ (run_look 0) (λ k. if (eqb k EOF) _ _ (ends tt none) run_take)
 
 pub run-expect : (k : ℕ) → T (small k) → Run [] (expect k) none
@@ -198,8 +198,8 @@ pub run-must : (k : ℕ) → Run [] (must k) none
 unfolding must
 run-must k = also _ _ (run_at 0 k) (λ b. if b _ _ (ends tt none) (run-stop-last Panic [] none))
 
-pub run-goes-on : (k : ℕ) → Run [] (goesOn k) none
-unfolding goesOn
+pub run-goes-on : (k : ℕ) → Run [] (goes_on k) none
+unfolding goes_on
 run-goes-on k = also _ _ (run_at 0 EOF) (λ b. if b _ _ (ends false none) (also _ _ (run_at 0 k) (λ c. ends _ none)))
 
 -- a node that is finished at its end
@@ -227,8 +227,8 @@ run-repeats f tr h x = run-iter f tr h rounds x
 abbrev pub message : ℕ → Bool
 message c = both (ordinary c) (small 0)
 
-pub run-err-recover : (code : ℕ) (set : List ℕ) → T (message code) → Run [] (errRecover code set) none
-unfolding errRecover
+pub run-err-recover : (code : ℕ) (set : List ℕ) → T (message code) → Run [] (err_recover code set) none
+unfolding err_recover
 run-err-recover code set t =
     also _ _ (run_look 0)
     (λ k. if (one_of (L-CURLY ∷ R-CURLY ∷ []) k) _ _ (run-error code 0 t)
@@ -240,14 +240,14 @@ run-err-recover code set t =
 pub opening : {B : Type 0} {us : Marks} {zs : B → Marks} (f : ℕ → Acts B) → ((i : ℕ) → Run (fresh i ∷ us) (f i) zs) → Run us (start >>= f) zs
 opening {us = us} f h = then _ f (λ i. fresh i ∷ us) (run-start us) h
 
-pub closing : {B : Type 0} {us : Marks} {zs : B → Marks} (i k : ℕ) (f : Completed → Acts B) → T (nodeKind k) → ((c : Completed) → Run us (f c) zs) → Run (fresh i ∷ us) (complete i k >>= f) zs
+pub closing : {B : Type 0} {us : Marks} {zs : B → Marks} (i k : ℕ) (f : Completed → Acts B) → T (node_kind k) → ((c : Completed) → Run us (f c) zs) → Run (fresh i ∷ us) (complete i k >>= f) zs
 closing {us = us} i k f t h = then _ f (λ c. us) (finish i k t) h
 
 pub dropping : {B : Type 0} {us : Marks} {zs : B → Marks} (i : ℕ) (f : Unit {0} → Acts B) → Run us (f tt) zs → Run (fresh i ∷ us) (abandon i >>= f) zs
 dropping {us = us} i f h = then _ f (λ u. us) (run-abandon i here) (λ u. h)
 
 -- at the end
-pub closed : (i k : ℕ) → T (nodeKind k) → Run {A = Unit {0}} (fresh i ∷ []) (complete i k >>= (λ c. done tt)) none
+pub closed : (i k : ℕ) → T (node_kind k) → Run {A = Unit {0}} (fresh i ∷ []) (complete i k >>= (λ c. done tt)) none
 closed i k t = closing i k _ t (λ c. ends tt none)
 
 pub dropped : (i : ℕ) → Run (fresh i ∷ []) (abandon i) none
@@ -257,10 +257,10 @@ dropped i = run-abandon i here
 abbrev pub made_of : Completed → Marks
 made_of c = shut c.pos ∷ []
 
-pub answered : (i k : ℕ) → T (nodeKind k) → Run (fresh i ∷ []) (complete i k) made_of
+pub answered : (i k : ℕ) → T (node_kind k) → Run (fresh i ∷ []) (complete i k) made_of
 answered i k t = record { runs = λ o r p x. let u = closes_in one p in (u.0, (t, u.1), u.2) }
 
-pub answered-around : (i k : ℕ) → T (nodeKind k) → Run (made i ∷ []) (complete i k) made_of
+pub answered-around : (i k : ℕ) → T (node_kind k) → Run (made i ∷ []) (complete i k) made_of
 answered-around i k t = record { runs = λ o r p x. let u = closes_in other p in (u.0, (t, u.1), u.2) }
 
 -- an answer that nobody reads
@@ -274,7 +274,7 @@ unasked m h = lose m (λ c. c.pos) none h
 pub perhaps : (b : Bool) (m : Acts (Unit {0})) → Run [] m none → Run [] (cond b m (done tt)) none
 perhaps b m h = if b _ _ h (ends tt none)
 
-pub closed-around : (i k : ℕ) → T (nodeKind k) → Run {A = Unit {0}} (made i ∷ []) (complete i k >>= (λ c. done tt)) none
+pub closed-around : (i k : ℕ) → T (node_kind k) → Run {A = Unit {0}} (made i ∷ []) (complete i k >>= (λ c. done tt)) none
 closed-around i k t = unread _ (unasked _ (answered-around i k t))
 
 -- a branch on an answer that says which markers are left
@@ -283,5 +283,5 @@ branch true x y h k = h
 branch false x y h k = k
 
 -- the open marker before the newest one
-pub closing-under : {B : Type 0} {x : Marker} {us : Marks} {zs : B → Marks} (i k : ℕ) (f : Completed → Acts B) → T (nodeKind k) → ((c : Completed) → Run (x ∷ us) (f c) zs) → Run (x ∷ fresh i ∷ us) (complete i k >>= f) zs
+pub closing-under : {B : Type 0} {x : Marker} {us : Marks} {zs : B → Marks} (i k : ℕ) (f : Completed → Acts B) → T (node_kind k) → ((c : Completed) → Run (x ∷ us) (f c) zs) → Run (x ∷ fresh i ∷ us) (complete i k >>= f) zs
 closing-under {x = x} {us = us} i k f t h = then _ f (λ c. x ∷ us) (record { runs = λ o r p a. let u = closes_in (there one) p in (u.0, (t, u.1), under u.2) }) h

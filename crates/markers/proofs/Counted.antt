@@ -31,9 +31,9 @@ unseen m h = record { runs = λ o r p. weaken m r (λ g t. Opens o (gotten g) t)
 
 -- The counted calls handle their markers well.
 pub record Tidy (c : Counted) : Type 0 where
-  pub expr-bp : (m : Mark) (prefer : Bool) (bp : ℕ) → Run (handed m) (c.exprBp m prefer bp) gotten
+  pub expr-bp : (m : Mark) (prefer : Bool) (bp : ℕ) → Run (handed m) (c.expr_bp m prefer bp) gotten
   pub stmt : Run [] c.stmt none
-  pub type-spec : Run [] c.typeSpec none
-  pub complex-type-spec : Run [] c.complexTypeSpec none
-  pub if-stmt : (m : ℕ) → Run (fresh m ∷ []) (c.ifStmt m) none
-  pub expression-list : Run [] c.expressionList none
+  pub type-spec : Run [] c.type_spec none
+  pub complex-type-spec : Run [] c.complex_type_spec none
+  pub if-stmt : (m : ℕ) → Run (fresh m ∷ []) (c.if_stmt m) none
+  pub expression-list : Run [] c.expression_list none

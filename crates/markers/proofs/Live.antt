@@ -11,11 +11,11 @@ use borrow.Author.Tests.{eqb-true, eqb-false, ltb-true, ltb-false}
 use Rattle.kinds.specs.Membership.{both}
 use Rattle.event.specs.declared.Event.{Event}
 use Rattle.event.specs.declared.Event.TheVariants.{Start, Finish, Token, Error, NoEvent}
-use Rattle.event.specs.Event.{isStart, is_bare, withKind, with_distance, Sound, distance}
+use Rattle.event.specs.Event.{is_start, is_bare, with_kind, with_distance, Sound, distance}
 use Rattle.laws.proofs.Tests.{apart}
 use Rattle.event.proofs.Encoding.{bare-start}
 use Rattle.event.proofs.Rooms.{Sounds}
-use Rattle.markers.proofs.Balance.{Goes, Balanced, isTomb, balanced-add, balanced-named, balanced-linked, balanced-take}
+use Rattle.markers.proofs.Balance.{Goes, Balanced, is_tomb, balanced-add, balanced-named, balanced-linked, balanced-take}
 use Rattle.markers.proofs.Marks.{Marker, Marker.fresh, Marker.made, Marker.shut, Marks, spot, at, Links, Free, Is, Fits, start-below, bare-reach, fits_more, fits-same, links-add, free-end, is-add, start-set, links-set, is_set, links-take, is-take}
 
 -- Starts and finishes balance, distances land on starts, numbers fit, and the markers o stand.
@@ -102,11 +102,11 @@ pub drops-at : (n i : ℕ) (l : List Event) {o o' : Marks} → Drops i o o' → 
 drops-at n i l here h = (h.0, h.1.0, h.1.1)
 drops-at n i l (there {x = x} c) h = let r = drops-at (spot x) i l c h.2 in (omega (arith, r.0, h.0), r.1, r.2)
 
-pub has-at : (n i : ℕ) (l : List Event) {o : Marks} → Has i o → Fits n l o → (i < n) × (isStart (at l i) ≡ true)
+pub has-at : (n i : ℕ) (l : List Event) {o : Marks} → Has i o → Fits n l o → (i < n) × (is_start (at l i) ≡ true)
 has-at n i l here h = (h.0, h.1)
 has-at n i l (there {x = x} c) h = let r = has-at (spot x) i l c h.2 in (omega (arith, r.0, h.0), r.1)
 
-pub extends-at : (n i j : ℕ) (l : List Event) {o o' : Marks} → Extends i j o o' → Fits n l o → (i < j) × (j < n) × (isStart (at l i) ≡ true) × (isStart (at l j) ≡ true)
+pub extends-at : (n i j : ℕ) (l : List Event) {o o' : Marks} → Extends i j o o' → Fits n l o → (i < j) × (j < n) × (is_start (at l i) ≡ true) × (is_start (at l j) ≡ true)
 extends-at n i j l (here d) h = let r = drops-at j i l d h.2 in (r.0, h.0, bare-start (at l i) r.1, h.1)
 extends-at n i j l (there {x = x} t) h = let r = extends-at (spot x) i j l t h.2 in (r.0, omega (arith, r.1, h.0), r.2, r.3)
 
@@ -114,7 +114,7 @@ pub bare-extends : (n i j : ℕ) (l : List Event) {o o' : Marks} → Extends i j
 bare-extends n i j l (here d) h = (drops-at j i l d h.2).1
 bare-extends n i j l (there {x = x} t) h = bare-extends (spot x) i j l t h.2
 
-bare-tomb : (v : Event) → is_bare v ≡ true → isTomb v ≡ true
+bare-tomb : (v : Event) → is_bare v ≡ true → is_tomb v ≡ true
 bare-tomb (Start k d) h = by (eqb k 0) h
   where
     by : (b : Bool) → both b (eqb d 0) ≡ true → b ≡ true
@@ -127,51 +127,51 @@ bare-tomb (NoEvent a b) h = h
 
 -- `complete`: a kind, and a finish
 module _ (l : List Event) (i k : ℕ) (bare : is_bare (at l i) ≡ true) where
-  named-reach : (v : Event) → is_bare v ≡ true → distance (withKind k v) ≡ 0
+  named-reach : (v : Event) → is_bare v ≡ true → distance (with_kind k v) ≡ 0
   named-reach (Start j d) h = bare-reach (Start j d) h
   named-reach Finish h = refl
   named-reach (Token j n) h = refl
   named-reach (Error c a f) h = refl
   named-reach (NoEvent a b) h = refl
 
-  named_start : (v : Event) → is_bare v ≡ true → isStart (withKind k v) ≡ true
+  named_start : (v : Event) → is_bare v ≡ true → is_start (with_kind k v) ≡ true
   named_start (Start j d) h = refl
   named_start Finish h = h
   named_start (Token j n) h = h
   named_start (Error c a f) h = h
   named_start (NoEvent a b) h = h
 
-  named-fits : (v : Event) → k < 65536 → is_bare v ≡ true → Sound (withKind k v)
+  named-fits : (v : Event) → k < 65536 → is_bare v ≡ true → Sound (with_kind k v)
   named-fits (Start j d) f h = f
   named-fits Finish f h = tt
   named-fits (Token j n) f h = apart h
   named-fits (Error c a w) f h = apart h
   named-fits (NoEvent a b) f h = apart h
 
-  is-start : isStart (at l i) ≡ true
+  is-start : is_start (at l i) ≡ true
   is-start = bare-start (at l i) bare
 
-  no-reach : distance (withKind k (at l i)) ≡ 0
+  no-reach : distance (with_kind k (at l i)) ≡ 0
   no-reach = named-reach (at l i) bare
 
-  kept : (x : Marker) → (spot x ≡ i → ⊥) → Is x l → Is x (set l i (withKind k (at l i)))
-  kept x n h = is_set l i (withKind k (at l i)) is-start (named_start (at l i) bare) x n (λ z. absurd (z no-reach)) h
+  kept : (x : Marker) → (spot x ≡ i → ⊥) → Is x l → Is x (set l i (with_kind k (at l i)))
+  kept x n h = is_set l i (with_kind k (at l i)) is-start (named_start (at l i) bare) x n (λ z. absurd (z no-reach)) h
 
-  fits-closes : (n : ℕ) {o o' : Marks} → Closes i o o' → Fits n l o → Fits n (set l i (withKind k (at l i))) o'
-  fits-closes n (one {o = o}) h = (h.0, start-set l i (withKind k (at l i)) is-start (named_start (at l i) bare) i is-start, fits-same i l _ o (λ x g. kept x (λ e. omega arith)) h.2)
-  fits-closes n (other {o = o}) h = (h.0, start-set l i (withKind k (at l i)) is-start (named_start (at l i) bare) i is-start, fits-same i l _ o (λ x g. kept x (λ e. omega arith)) h.2)
+  fits-closes : (n : ℕ) {o o' : Marks} → Closes i o o' → Fits n l o → Fits n (set l i (with_kind k (at l i))) o'
+  fits-closes n (one {o = o}) h = (h.0, start-set l i (with_kind k (at l i)) is-start (named_start (at l i) bare) i is-start, fits-same i l _ o (λ x g. kept x (λ e. omega arith)) h.2)
+  fits-closes n (other {o = o}) h = (h.0, start-set l i (with_kind k (at l i)) is-start (named_start (at l i) bare) i is-start, fits-same i l _ o (λ x g. kept x (λ e. omega arith)) h.2)
   fits-closes n (there {x = x} c) h =
       let r = closes_at (spot x) i l c h.2 in
       (h.0, kept x (λ e. omega (arith, r.0)) h.1, fits-closes (spot x) c h.2)
 
-  pub live-complete : {o o' : Marks} → (k ≡ 0 → ⊥) → k < 65536 → Closes i o o' → Live o l → Live o' (set l i (withKind k (at l i)) ++ Finish ∷ [])
+  pub live-complete : {o o' : Marks} → (k ≡ 0 → ⊥) → k < 65536 → Closes i o o' → Live o l → Live o' (set l i (with_kind k (at l i)) ++ Finish ∷ [])
   live-complete {o} {o'} n f c h =
-      let w : List Event = set l i (withKind k (at l i)) in
-      let q : length w ≡ length l = length-set l i (withKind k (at l i)) in
+      let w : List Event = set l i (with_kind k (at l i)) in
+      let q : length w ≡ length l = length-set l i (with_kind k (at l i)) in
       record {
         balance = balanced-add 0 1 0 w Finish (balanced-named 0 0 l i k n (bare-tomb (at l i) bare) h.balance) refl;
-        links = links-add w Finish refl (links-set l i (withKind k (at l i)) is-start (named_start (at l i) bare) (λ z. absurd (z no-reach)) h.links);
-        sounds = sounds-add w Finish tt (sounds-set l i (withKind k (at l i)) (named-fits (at l i) f bare) h.sounds);
+        links = links-add w Finish refl (links-set l i (with_kind k (at l i)) is-start (named_start (at l i) bare) (λ z. absurd (z no-reach)) h.links);
+        sounds = sounds-add w Finish tt (sounds-set l i (with_kind k (at l i)) (named-fits (at l i) f bare) h.sounds);
         marks = fits_more (length w) (length (w ++ Finish ∷ [])) (w ++ Finish ∷ []) o' (rw (longer w Finish) (omega arith)) (fits-same (length w) w (w ++ Finish ∷ []) o' (is-add w Finish refl) (rw q (fits-closes (length l) c h.marks)));
       }
 
@@ -199,22 +199,22 @@ live-pop n l {o} {o'} q d h =
     }
 
 -- Distances: the start at i points to a start at j, behind it.
-module _ (l : List Event) (i j : ℕ) (si : isStart (at l i) ≡ true) (sj : isStart (at l j) ≡ true) (up : i < j) where
-  far-start : (v : Event) → isStart v ≡ true → isStart (with_distance (j - i) v) ≡ true
+module _ (l : List Event) (i j : ℕ) (si : is_start (at l i) ≡ true) (sj : is_start (at l j) ≡ true) (up : i < j) where
+  far-start : (v : Event) → is_start v ≡ true → is_start (with_distance (j - i) v) ≡ true
   far-start (Start k d) h = refl
   far-start Finish h = h
   far-start (Token k n) h = h
   far-start (Error c a f) h = h
   far-start (NoEvent a b) h = h
 
-  far-reach : (v : Event) → isStart v ≡ true → distance (with_distance (j - i) v) ≡ j - i
+  far-reach : (v : Event) → is_start v ≡ true → distance (with_distance (j - i) v) ≡ j - i
   far-reach (Start k d) h = refl
   far-reach Finish h = apart h
   far-reach (Token k n) h = apart h
   far-reach (Error c a f) h = apart h
   far-reach (NoEvent a b) h = apart h
 
-  far-fits : (v : Event) → isStart v ≡ true → Sound v → Sound (with_distance (j - i) v)
+  far-fits : (v : Event) → is_start v ≡ true → Sound v → Sound (with_distance (j - i) v)
   far-fits (Start k d) h f = f
   far-fits Finish h f = f
   far-fits (Token k n) h f = f
@@ -230,7 +230,7 @@ module _ (l : List Event) (i j : ℕ) (si : isStart (at l i) ≡ true) (sj : isS
   apart_from : (x : Marker) → (spot x ≡ i → ⊥) → (spot x ≡ j → ⊥) → Is x l → Is x (set l i (with_distance (j - i) (at l i)))
   apart_from x n m h = is_set l i (with_distance (j - i) (at l i)) si (far-start (at l i) si) x n (λ z e. m (sym e ∙ lands)) h
 
-  starts-stay : (p : ℕ) → isStart (at l p) ≡ true → isStart (at (set l i (with_distance (j - i) (at l i))) p) ≡ true
+  starts-stay : (p : ℕ) → is_start (at l p) ≡ true → is_start (at (set l i (with_distance (j - i) (at l i))) p) ≡ true
   starts-stay = start-set l i (with_distance (j - i) (at l i)) si (far-start (at l i) si)
 
   live-far : {o o' : Marks} → Fits (length l) (set l i (with_distance (j - i) (at l i))) o' → Live o l → Live o' (set l i (with_distance (j - i) (at l i)))

@@ -11,7 +11,7 @@ use borrow.Author.Tests.{eqb-true, eqb-false, ltb-true, ltb-false}
 use Rattle.kinds.specs.Membership.{both}
 use Rattle.event.specs.declared.Event.{Event}
 use Rattle.event.specs.declared.Event.TheVariants.{Start, Finish, Token, Error, NoEvent}
-use Rattle.event.specs.Event.{isStart, is_bare, distance}
+use Rattle.event.specs.Event.{is_start, is_bare, distance}
 use Rattle.laws.proofs.Tests.{apart}
 
 -- A marker: open as `start` made it, open as `precede` made it, or completed. On the first no distance lands.
@@ -34,7 +34,7 @@ at l j = get_or l j (NoEvent 0 0)
 
 -- each distance lands on a start of the list
 pub record Links (l : List Event) : Type 0 where
-  pub lands : (j : ℕ) → (distance (at l j) ≡ 0 → ⊥) → isStart (at l (j + distance (at l j))) ≡ true
+  pub lands : (j : ℕ) → (distance (at l j) ≡ 0 → ⊥) → is_start (at l (j + distance (at l j))) ≡ true
 
 -- no distance lands on i
 pub record Free (l : List Event) (i : ℕ) : Type 0 where
@@ -44,7 +44,7 @@ pub record Free (l : List Event) (i : ℕ) : Type 0 where
 abbrev pub Is : Marker → List Event → Type 0
 Is (fresh i) l = (is_bare (at l i) ≡ true) × Free l i
 Is (made i) l = is_bare (at l i) ≡ true
-Is (shut i) l = isStart (at l i) ≡ true
+Is (shut i) l = is_start (at l i) ≡ true
 
 -- all stand, each before the ones that are newer
 abbrev pub Fits : ℕ → List Event → Marks → Type 0
@@ -52,12 +52,12 @@ Fits n l [] = Unit {0}
 Fits n l (x ∷ o) = (spot x < n) × Is x l × Fits (spot x) l o
 
 -- where a start stands there is an event
-pub start-below : (l : List Event) (p : ℕ) → isStart (at l p) ≡ true → p < length l
+pub start-below : (l : List Event) (p : ℕ) → is_start (at l p) ≡ true → p < length l
 start-below l p h = by (ltb p (length l)) refl
   where
     by : (b : Bool) → ltb p (length l) ≡ b → p < length l
     by true q = ltb-true _ _ q
-    by false q = apart (ap isStart (sym (get_or-eq_default l (NoEvent 0 0) (ltb-false p (length l) q))) ∙ h)
+    by false q = apart (ap is_start (sym (get_or-eq_default l (NoEvent 0 0) (ltb-false p (length l) q))) ∙ h)
 
 pub bare-reach : (v : Event) → is_bare v ≡ true → distance v ≡ 0
 bare-reach (Start k d) h = by (eqb k 0) h
@@ -102,11 +102,11 @@ module _ (l : List Event) (v : Event) (quiet : distance v ≡ 0) where
   pub links-add : Links l → Links (l ++ v ∷ [])
   links-add h = record { lands = on }
     where
-      on : (j : ℕ) → (distance (at (l ++ v ∷ []) j) ≡ 0 → ⊥) → isStart (at (l ++ v ∷ []) (j + distance (at (l ++ v ∷ []) j))) ≡ true
+      on : (j : ℕ) → (distance (at (l ++ v ∷ []) j) ≡ 0 → ⊥) → is_start (at (l ++ v ∷ []) (j + distance (at (l ++ v ∷ []) j))) ≡ true
       on j n =
           let q : at (l ++ v ∷ []) j ≡ at l j = below j (older j n) in
-          let s : isStart (at l (j + distance (at l j))) ≡ true = h.lands j (λ z. n (ap distance q ∙ z)) in
-          rw q (ap isStart (below (j + distance (at l j)) (start-below l (j + distance (at l j)) s)) ∙ s)
+          let s : is_start (at l (j + distance (at l j))) ≡ true = h.lands j (λ z. n (ap distance q ∙ z)) in
+          rw q (ap is_start (below (j + distance (at l j)) (start-below l (j + distance (at l j)) s)) ∙ s)
 
   pub free-add : (i : ℕ) → Free l i → Free (l ++ v ∷ []) i
   free-add i h = record { misses = off }
@@ -123,16 +123,16 @@ module _ (l : List Event) (v : Event) (quiet : distance v ≡ 0) where
       off : (j : ℕ) → (distance (at (l ++ v ∷ []) j) ≡ 0 → ⊥) → j + distance (at (l ++ v ∷ []) j) ≡ length l → ⊥
       off j n e =
           let q : distance (at (l ++ v ∷ []) j) ≡ distance (at l j) = ap distance (below j (older j n)) in
-          let s : isStart (at l (j + distance (at l j))) ≡ true = h.lands j (λ z. n (q ∙ z)) in
+          let s : is_start (at l (j + distance (at l j))) ≡ true = h.lands j (λ z. n (q ∙ z)) in
           omega (arith, start-below l (j + distance (at l j)) s, q, e)
 
   pub is-add : (x : Marker) → spot x < length l → Is x l → Is x (l ++ v ∷ [])
   is-add (fresh i) g h = (ap is_bare (below i g) ∙ h.0, free-add i h.1)
   is-add (made i) g h = ap is_bare (below i g) ∙ h
-  is-add (shut i) g h = ap isStart (below i g) ∙ h
+  is-add (shut i) g h = ap is_start (below i g) ∙ h
 
 -- Another start in the place of one.
-module _ (l : List Event) (i : ℕ) (v : Event) (old : isStart (at l i) ≡ true) (st : isStart v ≡ true) where
+module _ (l : List Event) (i : ℕ) (v : Event) (old : is_start (at l i) ≡ true) (st : is_start v ≡ true) where
   here : at (set l i v) i ≡ v
   here = get_or-set_same l i v (NoEvent 0 0) (start-below l i old)
 
@@ -140,17 +140,17 @@ module _ (l : List Event) (i : ℕ) (v : Event) (old : isStart (at l i) ≡ true
   other j n = get_or-set_other l i j v (NoEvent 0 0) n
 
   -- starts stay starts
-  pub start-set : (j : ℕ) → isStart (at l j) ≡ true → isStart (at (set l i v) j) ≡ true
+  pub start-set : (j : ℕ) → is_start (at l j) ≡ true → is_start (at (set l i v) j) ≡ true
   start-set j h = by (eqb j i) refl
     where
-      by : (b : Bool) → eqb j i ≡ b → isStart (at (set l i v) j) ≡ true
-      by true q = rw (eqb-true j i q) (ap isStart here ∙ st)
-      by false q = ap isStart (other j (eqb-false j i q)) ∙ h
+      by : (b : Bool) → eqb j i ≡ b → is_start (at (set l i v) j) ≡ true
+      by true q = rw (eqb-true j i q) (ap is_start here ∙ st)
+      by false q = ap is_start (other j (eqb-false j i q)) ∙ h
 
-  pub links-set : ((distance v ≡ 0 → ⊥) → isStart (at l (i + distance v)) ≡ true) → Links l → Links (set l i v)
+  pub links-set : ((distance v ≡ 0 → ⊥) → is_start (at l (i + distance v)) ≡ true) → Links l → Links (set l i v)
   links-set t h = record { lands = λ j. by j (eqb j i) refl }
     where
-      by : (j : ℕ) (b : Bool) → eqb j i ≡ b → (distance (at (set l i v) j) ≡ 0 → ⊥) → isStart (at (set l i v) (j + distance (at (set l i v) j))) ≡ true
+      by : (j : ℕ) (b : Bool) → eqb j i ≡ b → (distance (at (set l i v) j) ≡ 0 → ⊥) → is_start (at (set l i v) (j + distance (at (set l i v) j))) ≡ true
       by j true q n =
           let e : j ≡ i = eqb-true j i q in
           let r : at (set l i v) j ≡ v = ap (at (set l i v)) e ∙ here in
@@ -195,12 +195,12 @@ module _ (l : List Event) (n : ℕ) (long : length l ≡ n + 1) where
   pub links-take : Free l n → Links l → Links (take n l)
   links-take f h = record { lands = on }
     where
-      on : (j : ℕ) → (distance (at (take n l) j) ≡ 0 → ⊥) → isStart (at (take n l) (j + distance (at (take n l) j))) ≡ true
+      on : (j : ℕ) → (distance (at (take n l) j) ≡ 0 → ⊥) → is_start (at (take n l) (j + distance (at (take n l) j))) ≡ true
       on j z =
           let q : at (take n l) j ≡ at l j = kept j (still j z) in
           let y : distance (at l j) ≡ 0 → ⊥ = λ e. z (ap distance q ∙ e) in
-          let s : isStart (at l (j + distance (at l j))) ≡ true = h.lands j y in
-          rw q (ap isStart (kept (j + distance (at l j)) (omega (arith, start-below l (j + distance (at l j)) s, f.misses j y))) ∙ s)
+          let s : is_start (at l (j + distance (at l j))) ≡ true = h.lands j y in
+          rw q (ap is_start (kept (j + distance (at l j)) (omega (arith, start-below l (j + distance (at l j)) s, f.misses j y))) ∙ s)
 
   free-take : (x : ℕ) → Free l x → Free (take n l) x
   free-take x h = record { misses = off }
@@ -213,4 +213,4 @@ module _ (l : List Event) (n : ℕ) (long : length l ≡ n + 1) where
   pub is-take : (x : Marker) → spot x < n → Is x l → Is x (take n l)
   is-take (fresh i) g h = (ap is_bare (kept i g) ∙ h.0, free-take i h.1)
   is-take (made i) g h = ap is_bare (kept i g) ∙ h
-  is-take (shut i) g h = ap isStart (kept i g) ∙ h
+  is-take (shut i) g h = ap is_start (kept i g) ∙ h

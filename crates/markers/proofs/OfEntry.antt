@@ -7,7 +7,7 @@ use Rattle.runtime.specs.declared.parser.Stop.TheVariants.{Deep}
 use Rattle.grammar.specs.declared.Mark.TheVariants.{Fresh}
 use Rattle.grammar.specs.Grammar.{Counted}
 use Rattle.operators.specs.Operators.{Table}
-use Rattle.grammar.specs.Entry.{later, counted, deepest, sourceFile, oneItem, oneExpression}
+use Rattle.grammar.specs.Entry.{later, counted, deepest, source_file, one_item, one_expression}
 use Rattle.markers.proofs.Calculus.{Run, none, also, run-stop, run-stop-last, opening, closed, unread}
 use Rattle.markers.proofs.Counted.{gotten, handed, unseen, Tidy}
 use Rattle.markers.proofs.OfExpressions as E
@@ -42,14 +42,14 @@ tidy ops (suc n) =
       expression-list = P.expression-list (counted ops n) h;
     }
 
-pub source-file : (ops : Table) → Run [] (sourceFile ops) none
-unfolding sourceFile
+pub source-file : (ops : Table) → Run [] (source_file ops) none
+unfolding source_file
 source-file ops = opening _ (λ m. also _ _ (I.source-file-contents (counted ops deepest) (tidy ops deepest) false) (λ u. closed m SOURCE-FILE tt))
 
-pub one-item : (ops : Table) → Run [] (oneItem ops) none
-unfolding oneItem
+pub one-item : (ops : Table) → Run [] (one_item ops) none
+unfolding one_item
 one-item ops = I.item-tidy (counted ops deepest) (tidy ops deepest) false
 
-pub one-expression : (ops : Table) → Run [] (oneExpression ops) none
-unfolding oneExpression
+pub one-expression : (ops : Table) → Run [] (one_expression ops) none
+unfolding one_expression
 one-expression ops = unread _ (unseen _ ((tidy ops deepest).expr-bp Fresh false 1))

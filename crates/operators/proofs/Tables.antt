@@ -13,7 +13,7 @@ use Rattle.laws.proofs.Tests.{apart}
 use Rattle.kinds.proofs.Laws.{both-parts}
 use Rattle.kinds.specs.Membership.{one_of, both}
 use Rattle.kinds.specs.Kinds.{DOT3, FAT-ARROW}
-use Rattle.operators.specs.Operators.{Power, Table, arms, finds, left, assignments, operators, side, Fair, Follows, stands, specificationLines, listed, packed, crateOrder, specificationOrder, rows_of, table_of}
+use Rattle.operators.specs.Operators.{Power, Table, arms, finds, left, assignments, operators, side, Fair, Follows, stands, specification_lines, listed, packed, crate_order, specification_order, rows_of, table_of}
 
 -- ---- what a test tells of each
 
@@ -187,22 +187,22 @@ past_words rs t k h = by (each (under 56) rs t k)
 
 -- ---- the order of some lines
 
-unfoldable pub onLines : (ℕ → Bool) → List (List ℕ) → Bool
-onLines f [] = true
-onLines f (l ∷ ls) = both (all f l) (onLines f ls)
+unfoldable pub on_lines : (ℕ → Bool) → List (List ℕ) → Bool
+on_lines f [] = true
+on_lines f (l ∷ ls) = both (all f l) (on_lines f ls)
 
-of-lines : (f : ℕ → Bool) (ls : List (List ℕ)) → T (onLines f ls) → (i k : ℕ) → stands ls i k ≡ true → T (f k)
-unfolding onLines one_of
+of-lines : (f : ℕ → Bool) (ls : List (List ℕ)) → T (on_lines f ls) → (i k : ℕ) → stands ls i k ≡ true → T (f k)
+unfolding on_lines one_of
 of-lines f [] t i k h = apart h
-of-lines f (l ∷ ls) t zero k h = of-all f l (both-parts (all f l) (onLines f ls) t).0 k h
-of-lines f (l ∷ ls) t (suc i) k h = of-lines f ls (both-parts (all f l) (onLines f ls) t).1 i k h
+of-lines f (l ∷ ls) t zero k h = of-all f l (both-parts (all f l) (on_lines f ls) t).0 k h
+of-lines f (l ∷ ls) t (suc i) k h = of-lines f ls (both-parts (all f l) (on_lines f ls) t).1 i k h
 
 -- every two of a line have one power, and each of it a greater one than all on the lines below
 abbrev pub even : Table → List ℕ → Bool
 even ops l = all (λ a. all (λ b. eqb (ops a).power (ops b).power) l) l
 
 abbrev pub over : Table → List ℕ → List (List ℕ) → Bool
-over ops l ls = all (λ a. onLines (λ b. ltb (ops b).power (ops a).power) ls) l
+over ops l ls = all (λ a. on_lines (λ b. ltb (ops b).power (ops a).power) ls) l
 
 unfoldable pub descends : Table → List (List ℕ) → Bool
 descends ops [] = true
@@ -228,7 +228,7 @@ in_order ops ls t = record { alike = alike ls t; tighter = tighter ls t }
     tighter [] t i j a b h ha hb = apart ha
     tighter (l ∷ ls) t i zero a b h ha hb = absurd (omega arith)
     tighter (l ∷ ls) t zero (suc j) a b h ha hb =
-        ltb→lt _ _ (of-lines (λ y. ltb (ops y).power (ops a).power) ls (of-all (λ x. onLines (λ y. ltb (ops y).power (ops x).power) ls) l (here l ls t).1 a ha) j b hb)
+        ltb→lt _ _ (of-lines (λ y. ltb (ops y).power (ops a).power) ls (of-all (λ x. on_lines (λ y. ltb (ops y).power (ops x).power) ls) l (here l ls t).1 a ha) j b hb)
     tighter (l ∷ ls) t (suc i) (suc j) a b h ha hb = tighter ls (here l ls t).2 i j a b (omega arith) ha hb
 
 -- ---- both modes
@@ -255,19 +255,19 @@ unfolding table_of
 mode-past mode k h = past_words (rows_of mode) (mode-written mode).0 k h
 
 -- the rows of mode 0, and of any other
-pub rows-zero : (mode : ℕ) → mode ≡ 0 → rows_of mode ≡ crateOrder
+pub rows-zero : (mode : ℕ) → mode ≡ 0 → rows_of mode ≡ crate_order
 rows-zero mode e = rw e refl
 
-pub rows_other : (mode : ℕ) → (mode ≡ 0 → ⊥) → rows_of mode ≡ specificationOrder
+pub rows_other : (mode : ℕ) → (mode ≡ 0 → ⊥) → rows_of mode ≡ specification_order
 rows_other zero h = absurd (h refl)
 rows_other (suc n) h = refl
 
 -- mode 1 is the specification's order
-pub follows : Follows specificationLines (table_of 1)
-unfolding table_of descends all onLines one_of
-follows = in_order (table_of 1) specificationLines tt
+pub follows : Follows specification_lines (table_of 1)
+unfolding table_of descends all on_lines one_of
+follows = in_order (table_of 1) specification_lines tt
 
 -- and mode 0 is not
-pub crate-does-not : descends (table_of 0) specificationLines ≡ false
-unfolding table_of descends all onLines one_of
+pub crate-does-not : descends (table_of 0) specification_lines ≡ false
+unfolding table_of descends all on_lines one_of
 crate-does-not = refl

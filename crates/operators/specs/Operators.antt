@@ -46,9 +46,9 @@ abbrev pub finds : List Guards → List ℕ
 finds [] = []
 finds (g ∷ gs) = g.tried ++ g.plain ∷ finds gs
 
-abbrev pub armOf : List Guards → ℕ → Acts ℕ
-armOf [] k = done DOT3
-armOf (g ∷ gs) k = cond (eqb k g.first) (first_at g.tried g.plain) (armOf gs k)
+abbrev pub arm_of : List Guards → ℕ → Acts ℕ
+arm_of [] k = done DOT3
+arm_of (g ∷ gs) k = cond (eqb k g.first) (first_at g.tried g.plain) (arm_of gs k)
 
 -- An operator's power, and the least power of its right side: one more where it is left, the same where it is right.
 pub record Power : Type 0 where
@@ -66,8 +66,8 @@ abbrev pub Table : Type 0
 Table = ℕ → Power
 
 -- the operators that are left
-abbrev pub leftOperators : List ℕ
-leftOperators =
+abbrev pub left_operators : List ℕ
+left_operators =
     STAR ∷ SLASH ∷ PERCENT ∷ PLUS ∷ MINUS ∷ SHL ∷ SHR ∷ L-ANGLE ∷ LTEQ ∷ R-ANGLE ∷ GTEQ ∷ EQ2 ∷ NEQ ∷ AMP ∷ CARET ∷ PIPE ∷ AMP2 ∷ PIPE2
     ∷ DOUBLE-PLUS ∷ DOT2 ∷ DOT2EQ ∷ []
 
@@ -76,7 +76,7 @@ abbrev pub assignments : List ℕ
 assignments = EQ ∷ PIPEEQ ∷ SHREQ ∷ SHLEQ ∷ PLUSEQ ∷ CARETEQ ∷ PERCENTEQ ∷ AMPEQ ∷ SLASHEQ ∷ STAREQ ∷ MINUSEQ ∷ []
 
 abbrev pub operators : List ℕ
-operators = leftOperators ++ assignments
+operators = left_operators ++ assignments
 
 -- how far above its operator's power a right side is read
 abbrev pub side : ℕ → ℕ
@@ -91,8 +91,8 @@ pub record Fair (ops : Table) : Type 0 where
   pub right_side : (k : ℕ) → (ops k).next ≡ (ops k).power + side k
 
 -- The specification's order of its binary operators, tightest first; `**` is none of the crate's.
-abbrev pub specificationLines : List (List ℕ)
-specificationLines =
+abbrev pub specification_lines : List (List ℕ)
+specification_lines =
     (STAR ∷ SLASH ∷ PERCENT ∷ [])
     ∷ (PLUS ∷ MINUS ∷ [])
     ∷ (SHL ∷ SHR ∷ [])
@@ -119,8 +119,8 @@ listed [] k = left 0
 listed (r ∷ rs) k = cond (eqb k r.0) r.1 (listed rs k)
 
 -- mode 0: as current_op has them
-abbrev pub crateOrder : List (ℕ × Power)
-crateOrder =
+abbrev pub crate_order : List (ℕ × Power)
+crate_order =
     (PIPE2, left 3) ∷ (PIPEEQ, right 1) ∷ (PIPE, left 6)
     ∷ (SHREQ, right 1) ∷ (SHR, left 9) ∷ (GTEQ, left 5) ∷ (R-ANGLE, left 5)
     ∷ (EQ2, left 5) ∷ (EQ, right 12)
@@ -137,8 +137,8 @@ crateOrder =
     ∷ []
 
 -- mode 1: the order of the OpenQASM 3 specification, the rest as mode 0
-abbrev pub specificationOrder : List (ℕ × Power)
-specificationOrder =
+abbrev pub specification_order : List (ℕ × Power)
+specification_order =
     (STAR, left 18) ∷ (SLASH, left 18) ∷ (PERCENT, left 18)
     ∷ (PLUS, left 16) ∷ (MINUS, left 16)
     ∷ (SHL, left 14) ∷ (SHR, left 14)
@@ -150,12 +150,12 @@ specificationOrder =
     ∷ (AMP2, left 4)
     ∷ (PIPE2, left 3)
     ∷ (EQ, right 20)
-    ∷ crateOrder
+    ∷ crate_order
 
 -- the rows of a mode, and its table
 abbrev pub rows_of : ℕ → List (ℕ × Power)
-rows_of zero = crateOrder
-rows_of (suc n) = specificationOrder
+rows_of zero = crate_order
+rows_of (suc n) = specification_order
 
 unfoldable pub table_of : ℕ → Table
 table_of mode = listed (rows_of mode)
@@ -167,8 +167,8 @@ packed q = 2 * q.power + (q.power + 1 - q.next)
 -- fn current_op, line 167: one lookup, and what stands there under a table
 -- runs: expr `a`, expr `a||b&&c==d!=e<f>g<=h>=i|j^k&l<<m>>n+o-p*q/r%s`, expr `a|=b>>=c<<=d+=e^=f%=g&=h/=i*=j-=k=l`, expr `a++b..c..=d`, expr `a=>b`
 -- breaks: never
-unfoldable pub currentOp : Table → Acts Op
-currentOp ops = do
+unfoldable pub current_op : Table → Acts Op
+current_op ops = do
   k ← current
-  op ← armOf arms k
+  op ← arm_of arms k
   done (record { power = (ops op).power; kind = op; next = (ops op).next })

@@ -95,7 +95,7 @@ fn first_of_three(
 // The operator that stands here, where the token is of a kind; DOT3 for none.
 fn operator_at(kinds: &[u16], joints: &[u64], p: Parser, kind: u16) -> u16
     requires { Fit p }
-    ensures { Peeks (env kinds.now joints.now) (acts.armOf acts.arms kind) p result p }
+    ensures { Peeks (env kinds.now joints.now) (acts.arm_of acts.arms kind) p result p }
 {
     match kind {
         k::PIPE => first_of_two(kinds, joints, p, k::PIPE2, k::PIPEEQ, k::PIPE),
@@ -133,7 +133,7 @@ fn power_of(mode: u8, kind: u16) -> u64
 // What stands here under the table of a mode: one lookup.
 pub fn current_op(kinds: &[u16], joints: &[u64], p: Parser, mode: u8) -> OpAt
     requires { Fit p }
-    ensures { Peeks (env kinds.now joints.now) (acts.currentOp (acts.table_of mode)) p result.op result.p }
+    ensures { Peeks (env kinds.now joints.now) (acts.current_op (acts.table_of mode)) p result.op result.p }
 {
     let l = p.current(kinds, joints);
     let p1 = l.p;

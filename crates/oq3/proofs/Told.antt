@@ -12,21 +12,21 @@ use Rattle.parse.specs.Parse as P
 use Rattle.lex.specs.declared.Answer as L
 use Rattle.lex.specs.Lexing.{lent, lexing}
 use Rattle.lex.specs.Lexing as X
-use Rattle.oq3.specs.Calls.{Call, returns, withRoom, three, toldParse, entered, parses, LexCall, lexReturns, two, toldLex, lexes}
+use Rattle.oq3.specs.Calls.{Call, returns, with_room, three, told_parse, entered, parses, LexCall, lex_returns, two, told_lex, lexes}
 
 module _ (room ws out : List ℕ) (o : Outcome) where
-  pub no_room : length room ≡ 0 → withRoom room ws out o ≡ returns 100 ws out room
-  unfolding withRoom
+  pub no_room : length room ≡ 0 → with_room room ws out o ≡ returns 100 ws out room
+  unfolding with_room
   no_room z = rw (eq-eqb (length room) 0 z)
 
   pub is-told : (a : Numbers) (ws' out' : List ℕ) (n p : ℕ) → (length room ≡ 0 → ⊥) → o ≡ ends a ws' out' → n ≡ a.code → p ≡ a.place
-      → withRoom room ws out o ≡ returns n ws' out' (set room 0 p)
-  unfolding withRoom
+      → with_room room ws out o ≡ returns n ws' out' (set room 0 p)
+  unfolding with_room
   is-told a ws' out' n p h e f g = rw (ne_eqb (length room) 0 h, e, f, g)
 
 -- a parse that ends
-pub parse-told : (room ws out : List ℕ) (o : P.Outcome) (a : Answer) (n : ℕ) → o ≡ P.ends a ws → n ≡ a.code → out ≡ three a room → toldParse room o ≡ returns n ws [] out
-unfolding toldParse
+pub parse-told : (room ws out : List ℕ) (o : P.Outcome) (a : Answer) (n : ℕ) → o ≡ P.ends a ws → n ≡ a.code → out ≡ three a room → told_parse room o ≡ returns n ws [] out
+unfolding told_parse
 parse-told room ws out o a n e f g = rw (e, f, g)
 
 module _ (entry mode : ℕ) (kinds joints ws room : List ℕ) where
@@ -35,7 +35,7 @@ module _ (entry mode : ℕ) (kinds joints ws room : List ℕ) where
   no_words h = rw (lt-ltb (length room) 3 h)
 
   -- an entry, and a number that is none
-  pub from-entry : (i : ℕ) (c : Call) → 3 ≤ length room → entry ≡ i → toldParse room (entered i mode kinds joints ws) ≡ c → parses entry mode kinds joints ws room ≡ c
+  pub from-entry : (i : ℕ) (c : Call) → 3 ≤ length room → entry ≡ i → told_parse room (entered i mode kinds joints ws) ≡ c → parses entry mode kinds joints ws room ≡ c
   unfolding parses
   from-entry i c h e q = rw (le-ltb (length room) 3 h, e) q
 
@@ -55,16 +55,16 @@ call-unique c m n ws₁ ws₂ out₁ out₂ room₁ room₂ p q = (cc, cc, cc, c
 
 -- a lexing
 module _ (text kinds joints tokens room : List ℕ) where
-  pub no-lex-room : length room < 2 → lexes text kinds joints tokens room ≡ lexReturns 100 kinds joints tokens room
+  pub no-lex-room : length room < 2 → lexes text kinds joints tokens room ≡ lex_returns 100 kinds joints tokens room
   unfolding lexes
   no-lex-room h = rw (lt-ltb (length room) 2 h)
 
-  pub lex-told : (a : L.Answer) (ks js ts : List ℕ) → 2 ≤ length room → lexing (lent text kinds joints tokens) ≡ X.ends a ks js ts → lexes text kinds joints tokens room ≡ lexReturns a.code ks js ts (two a room)
+  pub lex-told : (a : L.Answer) (ks js ts : List ℕ) → 2 ≤ length room → lexing (lent text kinds joints tokens) ≡ X.ends a ks js ts → lexes text kinds joints tokens room ≡ lex_returns a.code ks js ts (two a room)
   unfolding lexes
-  lex-told a ks js ts h e = rw (le-ltb (length room) 2 h) (ap (toldLex room) e)
+  lex-told a ks js ts h e = rw (le-ltb (length room) 2 h) (ap (told_lex room) e)
 
-pub lex-call-unique : (c : LexCall) (m n : ℕ) (ks₁ ks₂ js₁ js₂ ts₁ ts₂ room₁ room₂ : List ℕ) → c ≡ lexReturns m ks₁ js₁ ts₁ room₁ → c ≡ lexReturns n ks₂ js₂ ts₂ room₂
+pub lex-call-unique : (c : LexCall) (m n : ℕ) (ks₁ ks₂ js₁ js₂ ts₁ ts₂ room₁ room₂ : List ℕ) → c ≡ lex_returns m ks₁ js₁ ts₁ room₁ → c ≡ lex_returns n ks₂ js₂ ts₂ room₂
     → (m ≡ n) × (ks₁ ≡ ks₂) × (js₁ ≡ js₂) × (ts₁ ≡ ts₂) × (room₁ ≡ room₂)
 lex-call-unique c m n ks₁ ks₂ js₁ js₂ ts₁ ts₂ room₁ room₂ p q =
-    let e : lexReturns m ks₁ js₁ ts₁ room₁ ≡ lexReturns n ks₂ js₂ ts₂ room₂ = sym p ∙ q in
+    let e : lex_returns m ks₁ js₁ ts₁ room₁ ≡ lex_returns n ks₂ js₂ ts₂ room₂ = sym p ∙ q in
     (ap (λ (c : LexCall). c.number) e, ap (λ (c : LexCall). c.kinds) e, ap (λ (c : LexCall). c.joints) e, ap (λ (c : LexCall). c.tokens) e, ap (λ (c : LexCall). c.answer) e)

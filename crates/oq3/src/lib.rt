@@ -3,7 +3,7 @@
 // room is too short it returns 100, and reads and writes nothing.
 ghost use Rattle.std.specs.Prelude.{◌≡◌, [], ◌≤◌, length};
 ghost use Rattle.parse.specs.Parse.{lent, parsed};
-ghost use Rattle.oq3.specs.Calls.{checks, resolves, returns, three, toldParse, parses, lexReturns, lexes};
+ghost use Rattle.oq3.specs.Calls.{checks, resolves, returns, three, told_parse, parses, lex_returns, lexes};
 
 use parse::{Answer, Entry};
 
@@ -28,7 +28,7 @@ fn parse_from(
     answer: &mut [u64],
 ) -> u32
     requires { 3 ≤ length answer.old }
-    ensures { toldParse answer.old (parsed (lent entry mode kinds.now joints.now room.old)) ≡ returns result room.new [] answer.new }
+    ensures { told_parse answer.old (parsed (lent entry mode kinds.now joints.now room.old)) ≡ returns result room.new [] answer.new }
 {
     let a = parse::parse(entry, mode, kinds, joints, room);
     tell(answer, a)
@@ -100,7 +100,7 @@ pub extern "C" fn oq3_lex(
     tokens: &mut [u32],
     answer: &mut [u64],
 ) -> u32
-    ensures { lexes text.now kinds.old joints.old tokens.old answer.old ≡ lexReturns result kinds.new joints.new tokens.new answer.new }
+    ensures { lexes text.now kinds.old joints.old tokens.old answer.old ≡ lex_returns result kinds.new joints.new tokens.new answer.new }
 {
     if answer.len() < 2 {
         return 100;

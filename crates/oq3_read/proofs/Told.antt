@@ -9,7 +9,7 @@ use Rattle.stepfile.specs.declared.Found.{Found}
 use Rattle.stepfile.specs.declared.Found.TheVariants.{Sound, End, Cut, Unsound}
 use Rattle.stepfile.specs.Front.{front, taken}
 use Rattle.stepfile.specs.Answer.{number_of}
-use Rattle.oq3_read.specs.Calls.{Call, returns, told, fields, six, readsStep}
+use Rattle.oq3_read.specs.Calls.{Call, returns, told, fields, six, reads_step}
 
 module _ (room ws : List ℕ) (n : ℕ) where
   pub too_short : length room < length ws → told room n ws ≡ returns 100 room
@@ -33,11 +33,11 @@ six-words Cut = refl
 six-words Unsound = refl
 
 module _ (bs room : List ℕ) where
-  pub no_words : length room < 6 → readsStep bs room ≡ returns 100 room
+  pub no_words : length room < 6 → reads_step bs room ≡ returns 100 room
   no_words h = too_short room (six (front bs)) (number_of (front bs)) (rw (six-words (front bs)) h)
 
   pub step-told : (f : Found) (n rest k a b d : ℕ) (left : List ℕ) → 6 ≤ length room → f ≡ front bs → n ≡ number_of f → rest ≡ taken f → k ∷ a ∷ b ∷ d ∷ [] ≡ fields f
-      → left ≡ (rest ∷ k ∷ a ∷ b ∷ d ∷ 0 ∷ []) ++ drop 6 room → readsStep bs room ≡ returns n left
+      → left ≡ (rest ∷ k ∷ a ∷ b ∷ d ∷ 0 ∷ []) ++ drop 6 room → reads_step bs room ≡ returns n left
   step-told f n rest k a b d left h e c r q l =
       let s : rest ∷ k ∷ a ∷ b ∷ d ∷ 0 ∷ [] ≡ six f = rw r (ap (λ (ws : List ℕ). taken f ∷ (ws ++ (0 ∷ []))) q) in
       let m = sym (six-words f) in

@@ -6,7 +6,7 @@ use Rattle.stepfile.specs.declared.Found.{Found}
 use Rattle.stepfile.specs.declared.Found.TheVariants.{Sound, End, Cut, Unsound}
 use Rattle.stepfile.specs.Front.{front, taken}
 use Rattle.stepfile.specs.Answer.{number_of}
-use Rattle.stepfile.specs.File.{fileRead}
+use Rattle.stepfile.specs.File.{file_read}
 
 -- the number returned, and the answer room
 pub record Call : Type 0 where
@@ -21,8 +21,8 @@ unfoldable pub told : List ℕ → ℕ → List ℕ → Call
 told room n ws = cond (ltb (length room) (length ws)) (returns 100 room) (returns n (ws ++ drop (length ws) room))
 
 -- the whole file: place and records
-abbrev pub readsFile : List ℕ → List ℕ → Call
-readsFile bs room = told room (fileRead bs).code ((fileRead bs).place ∷ (fileRead bs).records ∷ [])
+abbrev pub reads_file : List ℕ → List ℕ → Call
+reads_file bs room = told room (file_read bs).code ((file_read bs).place ∷ (file_read bs).records ∷ [])
 
 -- record kind and payload's numbers (docs/RULES.md, section 7), 0 for those that a record lacks; at no step all are 0
 abbrev pub fields_of : Step → List ℕ
@@ -42,5 +42,5 @@ fields Unsound = 0 ∷ 0 ∷ 0 ∷ 0 ∷ []
 abbrev pub six : Found → List ℕ
 six f = taken f ∷ (fields f ++ (0 ∷ []))
 
-abbrev pub readsStep : List ℕ → List ℕ → Call
-readsStep bs room = told room (number_of (front bs)) (six (front bs))
+abbrev pub reads_step : List ℕ → List ℕ → Call
+reads_step bs room = told room (number_of (front bs)) (six (front bs))

@@ -1,7 +1,7 @@
 // The reader's calls for C. A slice passes as a pointer and a length. A call returns the number of docs/RULES.md and writes its words to the
 // front of a lent answer room. Where that room is too short it returns 100, and reads and writes nothing.
 ghost use Rattle.std.specs.Prelude.{◌≡◌, [], ◌∷◌, ◌++◌, ◌≤◌, length, drop};
-ghost use Rattle.oq3_read.specs.Calls.{returns, readsFile, fields_of, fields, readsStep};
+ghost use Rattle.oq3_read.specs.Calls.{returns, reads_file, fields_of, fields, reads_step};
 
 use records::Step;
 use stepfile::Found;
@@ -85,7 +85,7 @@ fn tell(answer: &mut [u64], rest: usize, r: Fields)
 // One step: where the rest begins, the record kind, 0 at the end, and the payload's numbers.
 #[unsafe(no_mangle)]
 pub extern "C" fn oq3_read_step(file: &[u8], answer: &mut [u64]) -> u32
-    ensures { readsStep file.now answer.old ≡ returns result answer.new }
+    ensures { reads_step file.now answer.old ≡ returns result answer.new }
 {
     if answer.len() < 6 {
         return 100;
@@ -98,7 +98,7 @@ pub extern "C" fn oq3_read_step(file: &[u8], answer: &mut [u64]) -> u32
 // The whole file: its place and its records.
 #[unsafe(no_mangle)]
 pub extern "C" fn oq3_read_file(file: &[u8], answer: &mut [u64]) -> u32
-    ensures { readsFile file.now answer.old ≡ returns result answer.new }
+    ensures { reads_file file.now answer.old ≡ returns result answer.new }
 {
     if answer.len() < 2 {
         return 100;

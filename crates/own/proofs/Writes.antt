@@ -12,7 +12,7 @@ use Rattle.event.specs.declared.Event.{Event}
 use Rattle.event.specs.declared.Event.TheVariants.{Start, Finish, Token, Error, NoEvent}
 use Rattle.records.specs.declared.Step.{Step}
 use Rattle.records.specs.declared.Step.TheVariants.{Enter as enter, Error as error, Expected as expected}
-use Rattle.records.specs.Record.{recordOf, stepBytes, bytes, Wrote}
+use Rattle.records.specs.Record.{record_of, step_bytes, bytes, Wrote}
 use Rattle.records.proofs.Writes.{wrote_none, bytes_one}
 use Rattle.own.specs.Own.{own, reports, cost}
 
@@ -27,7 +27,7 @@ own-none e k d q z = ap own q ∙ rw (eq-eqb k 0 z)
 pub own-error : (e : Event) (c x f : ℕ) (s : Step) → e ≡ Error c x f → s ≡ reports c x f → own e ≡ s ∷ []
 own-error e c x f s q r = ap own q ∙ ap (λ (t : Step). t ∷ []) (sym r)
 
-pub cost-one : (e : Event) (s : Step) → own e ≡ s ∷ [] → cost e ≡ length (recordOf s)
+pub cost-one : (e : Event) (s : Step) → own e ≡ s ∷ [] → cost e ≡ length (record_of s)
 cost-one e s q = rw (q, bytes_one)
 
 -- what is written of steps that are none, and of one
@@ -35,19 +35,19 @@ pub wrote-no-step : (l : List ℕ) (i : ℕ) (ss : List Step) → ss ≡ [] → 
 unfolding bytes
 wrote-no-step l i ss e = rw e (wrote_none l i)
 
-pub wrote-step : (l : List ℕ) (i p : ℕ) (m : List ℕ) (ss : List Step) (s : Step) → ss ≡ s ∷ [] → Wrote l i (recordOf s) p m → Wrote l i (bytes ss) p m
+pub wrote-step : (l : List ℕ) (i p : ℕ) (m : List ℕ) (ss : List Step) (s : Step) → ss ≡ s ∷ [] → Wrote l i (record_of s) p m → Wrote l i (bytes ss) p m
 wrote-step l i p m ss s e w = rw (e, bytes_one) w
 
-pub room-step : (i n : ℕ) (ss : List Step) (s : Step) → ss ≡ s ∷ [] → i + length (bytes ss) ≤ n → i + length (recordOf s) ≤ n
+pub room-step : (i n : ℕ) (ss : List Step) (s : Step) → ss ≡ s ∷ [] → i + length (bytes ss) ≤ n → i + length (record_of s) ≤ n
 room-step i n ss s e h = rw (e, bytes_one) at h
 
 -- what an event asks for itself is one record at most
-pub cost-le : (e : Event) → cost e ≤ stepBytes
+pub cost-le : (e : Event) → cost e ≤ step_bytes
 unfolding bytes
-cost-le (Start k d) = by-test (λ (ss : List Step). length (bytes ss) ≤ stepBytes) (eqb k 0) [] (enter k ∷ []) (λ _. omega arith) (λ _. omega arith)
+cost-le (Start k d) = by-test (λ (ss : List Step). length (bytes ss) ≤ step_bytes) (eqb k 0) [] (enter k ∷ []) (λ _. omega arith) (λ _. omega arith)
 cost-le Finish = omega arith
 cost-le (Token k n) = omega arith
-cost-le (Error c x f) = by-test (λ (s : Step). length (bytes (s ∷ [])) ≤ stepBytes) (eqb c 1) (expected x f) (error c x) (λ _. omega arith) (λ _. omega arith)
+cost-le (Error c x f) = by-test (λ (s : Step). length (bytes (s ∷ [])) ≤ step_bytes) (eqb c 1) (expected x f) (error c x) (λ _. omega arith) (λ _. omega arith)
 cost-le (NoEvent a b) = omega arith
 
 -- and of a start six bytes at most

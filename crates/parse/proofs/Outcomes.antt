@@ -6,13 +6,13 @@ use native.Mathlib.Omega.{arith}
 use lib.ListN.{length}
 use borrow.Author.Tests.{eq-eqb, ne_eqb, lt-ltb, le-ltb}
 use Rattle.runtime.specs.declared.parser.Parser.{Parser}
-use Rattle.input.specs.Input.{Env, env, mostTokens}
+use Rattle.input.specs.Input.{Env, env, most_tokens}
 use Rattle.runtime.specs.State.{St, view, new}
 use Rattle.runtime.specs.Acts.{Acts, Does}
 use Rattle.event.proofs.Rooms.{length-events, first-words}
 use Rattle.runtime.proofs.Runs.{held-run}
 use Rattle.parse.specs.declared.Answer.{Answer}
-use Rattle.parse.specs.Parse.{Lent, ends, says, refuses, firstFault, actsOf, ran, number_of, zeroed, settled, parsed}
+use Rattle.parse.specs.Parse.{Lent, ends, says, refuses, first_fault, acts_of, ran, number_of, zeroed, settled, parsed}
 
 -- a run from `Parser::new()`
 pub begun : {A : Type 0} (e : Env) (m : Acts A) (p : Parser) (room : List ℕ) {a : A} {r : St} → p ≡ new → Does e m (view p room) a r → Does e m (view new room) a r
@@ -41,27 +41,27 @@ module _ (l : Lent) where
   mode-fails a h e = rw (lt-ltb 1 l.mode h, e)
 
   module _ (h₁ : l.mode ≤ 1) where
-    pub tokens-fail : (a : Answer) → mostTokens < length l.kinds → a ≡ refuses 2 0 → parsed l ≡ ends a l.room
+    pub tokens-fail : (a : Answer) → most_tokens < length l.kinds → a ≡ refuses 2 0 → parsed l ≡ ends a l.room
     unfolding parsed
-    tokens-fail a h e = rw (le-ltb 1 l.mode h₁, lt-ltb mostTokens (length l.kinds) h, e)
+    tokens-fail a h e = rw (le-ltb 1 l.mode h₁, lt-ltb most_tokens (length l.kinds) h, e)
 
-    module _ (h₂ : length l.kinds ≤ mostTokens) where
+    module _ (h₂ : length l.kinds ≤ most_tokens) where
       pub joints-fail : (a : Answer) → length l.joints < (length l.kinds + 63) / 64 → a ≡ refuses 3 0 → parsed l ≡ ends a l.room
       unfolding parsed
-      joints-fail a h e = rw (le-ltb 1 l.mode h₁, le-ltb mostTokens (length l.kinds) h₂, lt-ltb (length l.joints) ((length l.kinds + 63) / 64) h, e)
+      joints-fail a h e = rw (le-ltb 1 l.mode h₁, le-ltb most_tokens (length l.kinds) h₂, lt-ltb (length l.joints) ((length l.kinds + 63) / 64) h, e)
 
       module _ (h₃ : (length l.kinds + 63) / 64 ≤ length l.joints) where
-        pub kinds-fail : (a : Answer) (i : ℕ) → i ≡ firstFault l.kinds → i < length l.kinds → a ≡ refuses 4 i → parsed l ≡ ends a l.room
+        pub kinds-fail : (a : Answer) (i : ℕ) → i ≡ first_fault l.kinds → i < length l.kinds → a ≡ refuses 4 i → parsed l ≡ ends a l.room
         unfolding parsed
-        kinds-fail a i q h e = rw (le-ltb 1 l.mode h₁, le-ltb mostTokens (length l.kinds) h₂, le-ltb (length l.joints) ((length l.kinds + 63) / 64) h₃, ← q, lt-ltb i (length l.kinds) h, e)
+        kinds-fail a i q h e = rw (le-ltb 1 l.mode h₁, le-ltb most_tokens (length l.kinds) h₂, le-ltb (length l.joints) ((length l.kinds + 63) / 64) h₃, ← q, lt-ltb i (length l.kinds) h, e)
 
-        pub runs : (i : ℕ) → i ≡ firstFault l.kinds → length l.kinds ≤ i → (p : Parser) (mid out : List ℕ) (a : Answer)
-            → Does (env l.kinds l.joints) (actsOf l.entry l.mode) (view new l.room) tt (view p mid) → length mid ≡ length l.room
+        pub runs : (i : ℕ) → i ≡ first_fault l.kinds → length l.kinds ≤ i → (p : Parser) (mid out : List ℕ) (a : Answer)
+            → Does (env l.kinds l.joints) (acts_of l.entry l.mode) (view new l.room) tt (view p mid) → length mid ≡ length l.room
             → settled (number_of l.entry (length l.kinds) p) (length mid) (view p mid) ≡ ends a out → parsed l ≡ ends a out
         unfolding parsed
         runs i q h p mid out a d w e =
             let r : ran l ≡ view p mid = ap (λ (x : Unit {0} × St). x.1) d.same in
-            rw (le-ltb 1 l.mode h₁, le-ltb mostTokens (length l.kinds) h₂, le-ltb (length l.joints) ((length l.kinds + 63) / 64) h₃, ← q, le-ltb i (length l.kinds) h)
+            rw (le-ltb 1 l.mode h₁, le-ltb most_tokens (length l.kinds) h₂, le-ltb (length l.joints) ((length l.kinds + 63) / 64) h₃, ← q, le-ltb i (length l.kinds) h)
             (ap (λ (s : St). settled (number_of l.entry (length l.kinds) s.p) (length l.room) s) r
             ∙ ap (λ (x : ℕ). settled (number_of l.entry (length l.kinds) p) x (view p mid)) (sym w)
             ∙ e)

@@ -3,13 +3,13 @@ use Rattle.std.specs.Prelude.{Bool, cond, List, [], ◌∷◌, ◌++◌, ℕ, su
 use Rattle.kinds.specs.Membership.{one_of}
 use Rattle.kinds.specs.Sets.{PERMITTED}
 use Rattle.runtime.specs.declared.parser.Parser.{Parser}
-use Rattle.input.specs.Input.{env, mostTokens}
-use Rattle.event.specs.Event.{eventWords, words_of}
+use Rattle.input.specs.Input.{env, most_tokens}
+use Rattle.event.specs.Event.{event_words, words_of}
 use Rattle.runtime.specs.State.{St, view, new, live}
 use Rattle.runtime.specs.Cover.{events}
 use Rattle.runtime.specs.Acts.{Acts, run}
 use Rattle.operators.specs.Operators.{table_of}
-use Rattle.grammar.specs.Entry.{sourceFile, oneItem, oneExpression}
+use Rattle.grammar.specs.Entry.{source_file, one_item, one_expression}
 use Rattle.parse.specs.declared.Entry.{Entry}
 use Rattle.parse.specs.declared.Entry.TheVariants.{SourceFile, Item, Expression}
 use Rattle.parse.specs.declared.Answer.{Answer}
@@ -42,21 +42,21 @@ refuses code place = says code place 0 0
 
 -- What is tested before the run, in this order: a mode that is neither 0 nor 1; too many tokens; too few joint words; a kind that is
 -- not permitted, at the first such token.
-abbrev pub badMode : Lent → Bool
-badMode l = ltb 1 l.mode
+abbrev pub bad_mode : Lent → Bool
+bad_mode l = ltb 1 l.mode
 
-abbrev pub tooMany : Lent → Bool
-tooMany l = ltb mostTokens (length l.kinds)
+abbrev pub too_many : Lent → Bool
+too_many l = ltb most_tokens (length l.kinds)
 
-abbrev pub fewJoints : Lent → Bool
-fewJoints l = ltb (length l.joints) ((length l.kinds + 63) / 64)
+abbrev pub few_joints : Lent → Bool
+few_joints l = ltb (length l.joints) ((length l.kinds + 63) / 64)
 
-unfoldable pub firstFault : List ℕ → ℕ
-firstFault [] = 0
-firstFault (k ∷ ks) = cond (one_of PERMITTED k) (suc (firstFault ks)) 0
+unfoldable pub first_fault : List ℕ → ℕ
+first_fault [] = 0
+first_fault (k ∷ ks) = cond (one_of PERMITTED k) (suc (first_fault ks)) 0
 
-abbrev pub notPermitted : Lent → Bool
-notPermitted l = ltb (firstFault l.kinds) (length l.kinds)
+abbrev pub not_permitted : Lent → Bool
+not_permitted l = ltb (first_fault l.kinds) (length l.kinds)
 
 pub record Test : Type 0 where
   pub number : ℕ
@@ -70,7 +70,7 @@ abbrev nowhere : Lent → ℕ
 nowhere l = 0
 
 abbrev pub tests : List Test
-tests = test 1 badMode nowhere ∷ test 2 tooMany nowhere ∷ test 3 fewJoints nowhere ∷ test 4 notPermitted (λ (l : Lent). firstFault l.kinds) ∷ []
+tests = test 1 bad_mode nowhere ∷ test 2 too_many nowhere ∷ test 3 few_joints nowhere ∷ test 4 not_permitted (λ (l : Lent). first_fault l.kinds) ∷ []
 
 -- the first test that holds refuses, and leaves the room as it is
 abbrev pub tested : List Test → Lent → Outcome → Outcome
@@ -78,13 +78,13 @@ tested [] l o = o
 tested (t ∷ ts) l o = cond (t.holds l) (ends (refuses t.number (t.place l)) l.room) (tested ts l o)
 
 -- The run of an entry, from no events.
-abbrev pub actsOf : Entry → ℕ → Acts (Unit {0})
-actsOf SourceFile mode = sourceFile (table_of mode)
-actsOf Item mode = oneItem (table_of mode)
-actsOf Expression mode = oneExpression (table_of mode)
+abbrev pub acts_of : Entry → ℕ → Acts (Unit {0})
+acts_of SourceFile mode = source_file (table_of mode)
+acts_of Item mode = one_item (table_of mode)
+acts_of Expression mode = one_expression (table_of mode)
 
 abbrev pub ran : Lent → St
-ran l = (run (env l.kinds l.joints) (actsOf l.entry l.mode) (view new l.room)).1
+ran l = (run (env l.kinds l.joints) (acts_of l.entry l.mode) (view new l.room)).1
 
 -- The number of a run of so many tokens: its refusal, else 0; a source file that ends with a token left is refused with 8.
 abbrev pub leaves : Entry → ℕ → ℕ → ℕ
@@ -102,7 +102,7 @@ zeroed n ws = take n ws ++ replicate (length ws - n) 0
 -- What a run with a number comes to in a room of so many words: done, its events' words and zeros after them; refused, zeros.
 unfoldable pub settled : ℕ → ℕ → St → Outcome
 settled n size s =
-    cond (eqb n 0) (ends (says 0 s.p.pos s.p.len s.p.looks) (words_of (events s) ++ replicate (size - s.p.len * eventWords) 0))
+    cond (eqb n 0) (ends (says 0 s.p.pos s.p.len s.p.looks) (words_of (events s) ++ replicate (size - s.p.len * event_words) 0))
     (ends (refuses n s.p.pos) (replicate size 0))
 
 unfoldable pub parsed : Lent → Outcome

@@ -1,10 +1,10 @@
 // The parse: three entries, refusals 1 to 8, and every word of the lent room determined.
 ghost use Rattle.std.specs.Prelude.{◌≡◌, ◌*◌, ◌≤◌, length};
-ghost use Rattle.event.specs.Event.{eventWords};
+ghost use Rattle.event.specs.Event.{event_words};
 ghost use Rattle.input.specs.Input.{env};
 ghost use Rattle.runtime.specs.State.{view, new, Fit};
 ghost use Rattle.runtime.specs.Acts.{Does};
-ghost use Rattle.parse.specs.Parse.{lent, actsOf, refuses, firstFault, number_of, zeroed, settled, ends, parsed};
+ghost use Rattle.parse.specs.Parse.{lent, acts_of, refuses, first_fault, number_of, zeroed, settled, ends, parsed};
 
 use cycle::entry;
 use event::EVENT_WORDS;
@@ -45,7 +45,7 @@ fn refusal(code: u32, place: u32) -> Answer
 
 // The first token whose kind is not permitted; the number of tokens where each is.
 fn first_fault(kinds: &[u16]) -> usize
-    ensures { result ≡ firstFault kinds.now }
+    ensures { result ≡ first_fault kinds.now }
 {
     let mut i = 0;
     while i < kinds.len() {
@@ -71,7 +71,7 @@ fn zero_from(room: &mut [u32], from: usize)
 
 // The run of an entry, from no events.
 fn run(entry: Entry, mode: u8, kinds: &[u16], joints: &[u64], room: &mut [u32]) -> Parser
-    ensures { Does (env kinds.now joints.now) (actsOf entry mode) (view new room.old) tt (view result room.new) }
+    ensures { Does (env kinds.now joints.now) (acts_of entry mode) (view new room.old) tt (view result room.new) }
 {
     let p = Parser::new();
     match entry {
@@ -103,7 +103,7 @@ fn number(entry: Entry, tokens: usize, p: Parser) -> u32
 // What a run comes to: done, its list and zeros after it; refused, nothing but zeros.
 fn settle(entry: Entry, tokens: usize, room: &mut [u32], p: Parser) -> Answer
     requires fit { Fit p }
-    requires event_words_in_bounds { p.len * eventWords ≤ length room.old }
+    requires event_words_in_bounds { p.len * event_words ≤ length room.old }
     ensures { settled (number_of entry tokens p) (length room.old) (view p room.old) ≡ ends result room.new }
 {
     let n = number(entry, tokens, p);

@@ -13,8 +13,8 @@ use Rattle.laws.proofs.Tests.{by-test, apart}
 use Rattle.position.specs.declared.Position.{Position}
 use Rattle.position.specs.declared.Spot.{Spot}
 use Rattle.position.specs.declared.Cursor.{Cursor}
-use Rattle.position.specs.Position.{ends, ended, began, position, count, kind_of, size_of, isTrivia, offset, passed, byte_of, At}
-use Rattle.position.specs.Inside.{spot, cursor, Stands, hasCome}
+use Rattle.position.specs.Position.{ends, ended, began, position, count, kind_of, size_of, is_trivia, offset, passed, byte_of, At}
+use Rattle.position.specs.Inside.{spot, cursor, Stands, has_come}
 
 -- behind the end there is no LF
 pub beyond : (t : List ℕ) (i : ℕ) → length t ≤ i → eqb (get_or t i 0) 10 ≡ false
@@ -50,7 +50,7 @@ unfolding passed
 passed-le ws zero = omega arith
 passed-le ws (suc i) =
     let h = passed-le ws i in
-    by-test (λ (x : ℕ). x ≤ suc i) (isTrivia (kind_of ws i)) _ _ (λ e. omega arith) (λ e. omega arith)
+    by-test (λ (x : ℕ). x ≤ suc i) (is_trivia (kind_of ws i)) _ _ (λ e. omega arith) (λ e. omega arith)
 
 -- a cursor behind a token that is trivia, and behind another
 module _ (t ws : List ℕ) (c : Cursor) (s : Spot) (n : ℕ) (h : c ≡ cursor t ws c.token) (w : n ≡ size_of ws c.token) (e : s ≡ spot t (min (c.spot.at + n) (length t))) where
@@ -60,41 +60,41 @@ module _ (t ws : List ℕ) (c : Cursor) (s : Spot) (n : ℕ) (h : c ≡ cursor t
       let a = ap (λ (x : Cursor). x.spot.at) h in
       e ∙ ap (spot t) (rw (add-one c.token) (omega arith))
 
-  pub past-trivia : isTrivia (kind_of ws c.token) ≡ true → ◌≡◌ {A = Cursor} (record { token = c.token + 1; place = c.place; spot = s }) (cursor t ws (c.token + 1))
+  pub past-trivia : is_trivia (kind_of ws c.token) ≡ true → ◌≡◌ {A = Cursor} (record { token = c.token + 1; place = c.place; spot = s }) (cursor t ws (c.token + 1))
   unfolding passed
   past-trivia k = rw (spot_past, add-one c.token, k, ap (λ (x : Cursor). x.place) h)
 
-  pub past-other : isTrivia (kind_of ws c.token) ≡ false → ◌≡◌ {A = Cursor} (record { token = c.token + 1; place = c.place + 1; spot = s }) (cursor t ws (c.token + 1))
+  pub past-other : is_trivia (kind_of ws c.token) ≡ false → ◌≡◌ {A = Cursor} (record { token = c.token + 1; place = c.place + 1; spot = s }) (cursor t ws (c.token + 1))
   unfolding passed
   past-other k = rw (spot_past, add-one c.token, k, ap (λ (x : Cursor). x.place) h)
 
 -- where a walk ends it has come to the token with the place, and where it goes on it does not pass it
 module _ (ws : List ℕ) (p i : ℕ) (l : i ≤ count ws) (m : passed ws i ≤ p) where
-  comes : hasCome ws p i (passed ws i) ≡ true → At ws p i
-  unfolding hasCome
+  comes : has_come ws p i (passed ws i) ≡ true → At ws p i
+  unfolding has_come
   comes =
       by-test (λ (b : Bool). b ≡ true → At ws p i) (leb (count ws) i) _ _
       (λ t y. inr (omega (arith, leb-true (count ws) i t), m))
       (λ f.
-      by-test (λ (b : Bool). b ≡ true → At ws p i) (isTrivia (kind_of ws i)) _ _
+      by-test (λ (b : Bool). b ≡ true → At ws p i) (is_trivia (kind_of ws i)) _ _
       (λ k y. apart y)
       (λ k y. inl (omega (arith, leb-false (count ws) i f), k, omega (arith, leb-true p (passed ws i) y))))
 
-  passes-trivia : isTrivia (kind_of ws i) ≡ true → passed ws (i + 1) ≤ p
+  passes-trivia : is_trivia (kind_of ws i) ≡ true → passed ws (i + 1) ≤ p
   unfolding passed
   passes-trivia k = rw (add-one i, k) m
 
-  passes-other : isTrivia (kind_of ws i) ≡ false → passed ws i < p → passed ws (i + 1) ≤ p
+  passes-other : is_trivia (kind_of ws i) ≡ false → passed ws i < p → passed ws (i + 1) ≤ p
   unfolding passed
   passes-other k q = rw (add-one i, k) (omega arith)
 
-  goes : hasCome ws p i (passed ws i) ≡ false → (i < count ws) × (passed ws (i + 1) ≤ p)
-  unfolding hasCome
+  goes : has_come ws p i (passed ws i) ≡ false → (i < count ws) × (passed ws (i + 1) ≤ p)
+  unfolding has_come
   goes =
       by-test (λ (b : Bool). b ≡ false → (i < count ws) × (passed ws (i + 1) ≤ p)) (leb (count ws) i) _ _
       (λ t n. apart (sym n))
       (λ f.
-      by-test (λ (b : Bool). b ≡ false → (i < count ws) × (passed ws (i + 1) ≤ p)) (isTrivia (kind_of ws i)) _ _
+      by-test (λ (b : Bool). b ≡ false → (i < count ws) × (passed ws (i + 1) ≤ p)) (is_trivia (kind_of ws i)) _ _
       (λ k n. (omega (arith, leb-false (count ws) i f), passes-trivia k))
       (λ k n. (omega (arith, leb-false (count ws) i f), passes-other k (leb-false p (passed ws i) n))))
 
@@ -103,11 +103,11 @@ module _ (t ws : List ℕ) (p : ℕ) (c : Cursor) (h : Stands t ws c) (m : c.pla
   place_is : c.place ≡ passed ws c.token
   place_is = ap (λ (x : Cursor). x.place) h.is
 
-  pub cursor-comes : hasCome ws p c.token c.place ≡ true → At ws p c.token
-  cursor-comes y = comes ws p c.token h.inside (omega (arith, place_is)) (ap (hasCome ws p c.token) (sym place_is) ∙ y)
+  pub cursor-comes : has_come ws p c.token c.place ≡ true → At ws p c.token
+  cursor-comes y = comes ws p c.token h.inside (omega (arith, place_is)) (ap (has_come ws p c.token) (sym place_is) ∙ y)
 
-  pub cursor-goes : hasCome ws p c.token c.place ≡ false → (c.token < count ws) × (passed ws (c.token + 1) ≤ p)
-  cursor-goes n = goes ws p c.token h.inside (omega (arith, place_is)) (ap (hasCome ws p c.token) (sym place_is) ∙ n)
+  pub cursor-goes : has_come ws p c.token c.place ≡ false → (c.token < count ws) × (passed ws (c.token + 1) ≤ p)
+  cursor-goes n = goes ws p c.token h.inside (omega (arith, place_is)) (ap (has_come ws p c.token) (sym place_is) ∙ n)
 
 -- a cursor's line begins no later than it stands, which is in the text, and no more lines have ended there than bytes stand before it
 module _ (t ws : List ℕ) (c : Cursor) (h : c ≡ cursor t ws c.token) where

@@ -11,7 +11,7 @@ use lib.Dec.{eqb}
 use lib.ListN.{length}
 use borrow.Author.Tests.{eqb-true, eqb-false}
 use Rattle.laws.proofs.Tests.{by-test, apart}
-use Rattle.position.specs.Position.{ends, ended, began, count, kind_of, isTrivia, offset, passed, is_at, seek, tokenOf, At}
+use Rattle.position.specs.Position.{ends, ended, began, count, kind_of, is_trivia, offset, passed, is_at, seek, token_of, At}
 use Rattle.position.specs.Inside.{cursor, begins, Stands}
 
 -- the beginning is a cursor of every text and list
@@ -40,18 +40,18 @@ began-last t (suc n) k =
 -- further on no fewer are passed, and behind a token that is no trivia one more
 passed-step : (ws : List ℕ) (i : ℕ) → passed ws i ≤ passed ws (suc i)
 unfolding passed
-passed-step ws i = by-test (λ (x : ℕ). passed ws i ≤ x) (isTrivia (kind_of ws i)) _ _ (λ e. omega arith) (λ e. omega arith)
+passed-step ws i = by-test (λ (x : ℕ). passed ws i ≤ x) (is_trivia (kind_of ws i)) _ _ (λ e. omega arith) (λ e. omega arith)
 
 passed-far : (ws : List ℕ) (i n : ℕ) → passed ws i ≤ passed ws (n + i)
 passed-far ws i zero = rw zero-add (omega arith)
 passed-far ws i (suc n) = rw (suc-add) (omega (arith, passed-far ws i n, passed-step ws (n + i)))
 
-passed-past : (ws : List ℕ) (i : ℕ) → isTrivia (kind_of ws i) ≡ false → passed ws (suc i) ≡ passed ws i + 1
+passed-past : (ws : List ℕ) (i : ℕ) → is_trivia (kind_of ws i) ≡ false → passed ws (suc i) ≡ passed ws i + 1
 unfolding passed
 passed-past ws i k = rw k
 
 -- before a later token, all that are no trivia up to it are passed
-passed_later : (ws : List ℕ) (i j : ℕ) → i < j → isTrivia (kind_of ws i) ≡ false → passed ws i < passed ws j
+passed_later : (ws : List ℕ) (i j : ℕ) → i < j → is_trivia (kind_of ws i) ≡ false → passed ws i < passed ws j
 passed_later ws i j l k =
     let e : j - suc i + suc i ≡ j = omega arith in
     omega (arith, passed-past ws i k, passed-far ws (suc i) (j - suc i), ap (passed ws) e)
@@ -70,22 +70,22 @@ one_token ws p i j a b =
     omega arith
 
 -- what the search asks of a token
-is-at : (ws : List ℕ) (p i : ℕ) → is_at ws p i ≡ true → (isTrivia (kind_of ws i) ≡ false) × (passed ws i ≡ p)
+is-at : (ws : List ℕ) (p i : ℕ) → is_at ws p i ≡ true → (is_trivia (kind_of ws i) ≡ false) × (passed ws i ≡ p)
 unfolding is_at
 is-at ws p i =
-    by-test (λ (b : Bool). b ≡ true → (isTrivia (kind_of ws i) ≡ false) × (passed ws i ≡ p)) (isTrivia (kind_of ws i)) _ _
+    by-test (λ (b : Bool). b ≡ true → (is_trivia (kind_of ws i) ≡ false) × (passed ws i ≡ p)) (is_trivia (kind_of ws i)) _ _
     (λ k y. apart y)
     (λ k y. (k, eqb-true _ _ y))
 
 -- where it goes on, no more than p are passed
-on-trivia : (ws : List ℕ) (p i : ℕ) → passed ws i ≤ p → isTrivia (kind_of ws i) ≡ true → passed ws (suc i) ≤ p
+on-trivia : (ws : List ℕ) (p i : ℕ) → passed ws i ≤ p → is_trivia (kind_of ws i) ≡ true → passed ws (suc i) ≤ p
 unfolding passed
 on-trivia ws p i l k = rw k l
 
 not_at : (ws : List ℕ) (p i : ℕ) → passed ws i ≤ p → is_at ws p i ≡ false → passed ws (suc i) ≤ p
 unfolding is_at
 not_at ws p i l =
-    by-test (λ (b : Bool). b ≡ false → passed ws (suc i) ≤ p) (isTrivia (kind_of ws i)) _ _
+    by-test (λ (b : Bool). b ≡ false → passed ws (suc i) ≤ p) (is_trivia (kind_of ws i)) _ _
     (λ k n. on-trivia ws p i l k)
     (λ k n. let d : (passed ws i ≡ p → ⊥) = eqb-false _ _ n in omega (arith, passed-past ws i k))
 
@@ -98,9 +98,9 @@ seek-at ws p (suc n) i e l =
     (λ f. seek-at ws p n (suc i) (omega arith) (not_at ws p i l f))
 
 -- **The search finds it**, and so nothing else is that token.
-pub token-at : (ws : List ℕ) (p : ℕ) → At ws p (tokenOf ws p)
+pub token-at : (ws : List ℕ) (p : ℕ) → At ws p (token_of ws p)
 unfolding passed
 token-at ws p = seek-at ws p (count ws) 0 (omega arith) (omega arith)
 
-pub is-token : (ws : List ℕ) (p i : ℕ) → At ws p i → i ≡ tokenOf ws p
-is-token ws p i a = one_token ws p i (tokenOf ws p) a (token-at ws p)
+pub is-token : (ws : List ℕ) (p i : ℕ) → At ws p i → i ≡ token_of ws p
+is-token ws p i a = one_token ws p i (token_of ws p) a (token-at ws p)

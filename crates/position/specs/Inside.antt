@@ -2,7 +2,7 @@
 use Rattle.std.specs.Prelude.{ℕ, ◌≤◌, ◌≡◌, Bool, cond, true, false, List, leb}
 use Rattle.position.specs.declared.Spot.{Spot}
 use Rattle.position.specs.declared.Cursor.{Cursor}
-use Rattle.position.specs.Position.{ended, began, count, kind_of, isTrivia, passed, byte_of}
+use Rattle.position.specs.Position.{ended, began, count, kind_of, is_trivia, passed, byte_of}
 
 -- what is kept of byte n on the way
 abbrev pub spot : List ℕ → ℕ → Spot
@@ -21,5 +21,5 @@ abbrev pub begins : Cursor
 begins = record { token = 0; place = 0; spot = record { at = 0; lines = 0; start = 0 } }
 
 -- whether a walk ends at token i, with p asked for and q passed
-unfoldable pub hasCome : List ℕ → ℕ → ℕ → ℕ → Bool
-hasCome ws p i q = cond (leb (count ws) i) true (cond (isTrivia (kind_of ws i)) false (leb p q))
+unfoldable pub has_come : List ℕ → ℕ → ℕ → ℕ → Bool
+has_come ws p i q = cond (leb (count ws) i) true (cond (is_trivia (kind_of ws i)) false (leb p q))

@@ -31,8 +31,8 @@ kind_of ws i = get_or ws (2 * i) 0
 abbrev pub size_of : List ℕ → ℕ → ℕ
 size_of ws i = get_or ws (2 * i + 1) 0
 
-unfoldable pub isTrivia : ℕ → Bool
-isTrivia kind = cond (eqb kind WHITESPACE) true (eqb kind COMMENT)
+unfoldable pub is_trivia : ℕ → Bool
+is_trivia kind = cond (eqb kind WHITESPACE) true (eqb kind COMMENT)
 
 -- the bytes of the first i tokens, and how many of them are no trivia
 unfoldable pub offset : List ℕ → ℕ → ℕ
@@ -41,7 +41,7 @@ offset ws (suc i) = offset ws i + size_of ws i
 
 unfoldable pub passed : List ℕ → ℕ → ℕ
 passed ws zero = 0
-passed ws (suc i) = cond (isTrivia (kind_of ws i)) (passed ws i) (passed ws i + 1)
+passed ws (suc i) = cond (is_trivia (kind_of ws i)) (passed ws i) (passed ws i + 1)
 
 -- the first byte of token i; no list leads past the end of the text
 abbrev pub byte_of : List ℕ → List ℕ → ℕ → ℕ
@@ -49,20 +49,20 @@ byte_of t ws i = min (offset ws i) (length t)
 
 -- The token with place p: the first that is no trivia and has so many before it that are none; where there is none, the end of the list.
 unfoldable pub is_at : List ℕ → ℕ → ℕ → Bool
-is_at ws p i = cond (isTrivia (kind_of ws i)) false (eqb (passed ws i) p)
+is_at ws p i = cond (is_trivia (kind_of ws i)) false (eqb (passed ws i) p)
 
 -- from token i on, in so many rounds
 unfoldable pub seek : List ℕ → ℕ → ℕ → ℕ → ℕ
 seek ws p zero i = i
 seek ws p (suc n) i = cond (is_at ws p i) i (seek ws p n (suc i))
 
-abbrev pub tokenOf : List ℕ → ℕ → ℕ
-tokenOf ws p = seek ws p (count ws) 0
+abbrev pub token_of : List ℕ → ℕ → ℕ
+token_of ws p = seek ws p (count ws) 0
 
 -- The line and the column of the token with place p; of the end of the text where there is none, if the list is that of the whole text.
 abbrev pub position_of : List ℕ → List ℕ → ℕ → Position
-position_of t ws p = position t (byte_of t ws (tokenOf ws p))
+position_of t ws p = position t (byte_of t ws (token_of ws p))
 
 -- The same without a search: token i has place p, or no token has it and i is the end of the list. Only one i is so (proofs/Theorems).
 abbrev pub At : List ℕ → ℕ → ℕ → Type 0
-At ws p i = ((i < count ws) × (isTrivia (kind_of ws i) ≡ false) × (passed ws i ≡ p)) ⊎ ((i ≡ count ws) × (passed ws i ≤ p))
+At ws p i = ((i < count ws) × (is_trivia (kind_of ws i) ≡ false) × (passed ws i ≡ p)) ⊎ ((i ≡ count ws) × (passed ws i ≤ p))

@@ -1,7 +1,7 @@
 // Where the tokens of a text stand in it: lines and columns (docs/RULES.md, section 10). It prints nothing.
 ghost use Rattle.std.specs.Prelude.{◌≡◌, ◌+◌, ◌*◌, ◌^◌, ◌≤◌, ◌<◌, min, length, get_or};
-ghost use Rattle.position.specs.Position.{ends, position, isTrivia, count, byte_of, tokenOf, position_of};
-ghost use Rattle.position.specs.Inside.{spot, cursor, begins, Stands, hasCome};
+ghost use Rattle.position.specs.Position.{ends, position, is_trivia, count, byte_of, token_of, position_of};
+ghost use Rattle.position.specs.Inside.{spot, cursor, begins, Stands, has_come};
 
 use kinds::syntax_kind_enum as k;
 
@@ -86,7 +86,7 @@ fn past_bytes(text: &[u8], from: Spot, bytes: usize) -> Spot
 
 // Whether a kind is trivia.
 fn is_trivia(kind: u32) -> bool
-    ensures { result ≡ isTrivia kind }
+    ensures { result ≡ is_trivia kind }
 {
     if kind == k::WHITESPACE as u32 {
         return true;
@@ -125,7 +125,7 @@ fn past_token(text: &[u8], words: &[u32], c: Cursor) -> Cursor
 
 // Whether a cursor stands before the token with a place, or at the end of the list.
 fn has_come(words: &[u32], c: Cursor, place: usize) -> bool
-    ensures { result ≡ hasCome words.now place c.token c.place }
+    ensures { result ≡ has_come words.now place c.token c.place }
 {
     let i = c.token;
     if i >= words.len() / 2 {
@@ -156,7 +156,7 @@ pub fn start() -> Cursor
 pub fn moved(text: &[u8], words: &[u32], from: Cursor, place: usize) -> Cursor
     requires stands { Stands text.now words.now from }
     requires place_le_place { from.place ≤ place }
-    ensures value { result ≡ cursor text.now words.now (tokenOf words.now place) }
+    ensures value { result ≡ cursor text.now words.now (token_of words.now place) }
     ensures stands_2 { (Stands text.now words.now result) × (result.place ≤ place) }
 {
     let mut c = from;

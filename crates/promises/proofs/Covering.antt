@@ -13,9 +13,9 @@ use Rattle.runtime.specs.Cover.{Covers}
 use Rattle.records.specs.declared.Step.{Step}
 use Rattle.records.specs.declared.Step.TheVariants.{Enter as enter, Leave as leave, Token as taken, Error as failed, Expected as wanted}
 use Rattle.turns.specs.Process.{Placed, process, steps_of}
-use Rattle.listed.specs.Shape.{isEnter, others, plain}
+use Rattle.listed.specs.Shape.{is_enter, others, plain}
 use Rattle.listed.proofs.Order.{in_order}
-use Rattle.promises.specs.Promised.{SaysAt, rawOf, CoverSteps, rawSum}
+use Rattle.promises.specs.Promised.{SaysAt, raw_of, CoverSteps, raw_sum}
 
 -- steps that enter say nothing of tokens
 cover-others : (e : Env) (ps : List Placed) (i j : ℕ) → CoverSteps e i (steps_of (others ps)) j → CoverSteps e i (steps_of ps) j
@@ -26,8 +26,8 @@ cover-others e (p ∷ ps) i j h = by p.step refl h (cover-others e ps)
     z : i + 0 ≡ i
     z = omega arith
 
-    by : (s : Step) → p.step ≡ s → CoverSteps e i (steps_of (cond (isEnter p.step) (others ps) (p ∷ others ps))) j → ((i j : ℕ) → CoverSteps e i (steps_of (others ps)) j → CoverSteps e i (steps_of ps) j)
-        → SaysAt e i p.step × CoverSteps e (i + rawOf p.step) (steps_of ps) j
+    by : (s : Step) → p.step ≡ s → CoverSteps e i (steps_of (cond (is_enter p.step) (others ps) (p ∷ others ps))) j → ((i j : ℕ) → CoverSteps e i (steps_of (others ps)) j → CoverSteps e i (steps_of ps) j)
+        → SaysAt e i p.step × CoverSteps e (i + raw_of p.step) (steps_of ps) j
     by (enter k) q h r = rw (q, z) (tt, r i j (rw q at h))
     by leave q h r = let g : Unit {0} × CoverSteps e (i + 0) (steps_of (others ps)) j = rw q at h in rw q (tt, r (i + 0) j g.1)
     by (taken k n) q h r = let g : SaysAt e i (taken k n) × CoverSteps e (i + n) (steps_of (others ps)) j = rw q at h in rw q (g.0, r (i + n) j g.1)
@@ -47,7 +47,7 @@ cover-plain e p (Error c a f ∷ l) i j h = by (eqb c 1) refl h.0 (cover-plain e
     z = omega arith
 
     by : (t : Bool) → eqb c 1 ≡ t → f ≡ cond t (kind e.kinds i) 0 → CoverSteps e i (steps_of (plain (suc p) l)) j
-        → SaysAt e i (cond t (wanted a f) (failed c a)) × CoverSteps e (i + rawOf (cond t (wanted a f) (failed c a))) (steps_of (plain (suc p) l)) j
+        → SaysAt e i (cond t (wanted a f) (failed c a)) × CoverSteps e (i + raw_of (cond t (wanted a f) (failed c a))) (steps_of (plain (suc p) l)) j
     by true q s r = (s, rw z r)
     by false q s r = (eqb-false c 1 q, rw z r)
 cover-plain e p (NoEvent a b ∷ l) i j h = cover-plain e (suc p) l i j h.1
@@ -56,7 +56,7 @@ pub cover-steps : (e : Env) (l : List Event) (i j : ℕ) → Covers e i l j → 
 cover-steps e l i j h = cover-others e (process l).steps i j (rw (in_order l) (cover-plain e 0 l i j h))
 
 -- what is covered is as much as the raw counts add up to
-pub cover-sum : (e : Env) (ss : List Step) (i j : ℕ) → CoverSteps e i ss j → i + rawSum ss ≡ j
-unfolding rawSum
+pub cover-sum : (e : Env) (ss : List Step) (i j : ℕ) → CoverSteps e i ss j → i + raw_sum ss ≡ j
+unfolding raw_sum
 cover-sum e [] i j h = let z : i + 0 ≡ i = omega arith in z ∙ h
-cover-sum e (s ∷ ss) i j h = let g = cover-sum e ss (i + rawOf s) j h.1 in omega (arith, g)
+cover-sum e (s ∷ ss) i j h = let g = cover-sum e ss (i + raw_of s) j h.1 in omega (arith, g)

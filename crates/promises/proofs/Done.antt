@@ -22,7 +22,7 @@ use Rattle.runtime.proofs.Runs.{fit-run, Held, held-run}
 use Rattle.operators.specs.Operators.{table_of}
 use Rattle.parse.specs.declared.Entry.{Entry}
 use Rattle.parse.specs.declared.Entry.TheVariants.{SourceFile, Item, Expression}
-use Rattle.parse.specs.Parse.{Lent, Outcome, firstFault, actsOf, ran, leaves, parsed}
+use Rattle.parse.specs.Parse.{Lent, Outcome, first_fault, acts_of, ran, leaves, parsed}
 use Rattle.answers.specs.Refusals.{reason}
 use Rattle.answers.proofs.Reached.{Reason, Reason.none, Reason.room, Reason.deep, Reason.lookups, Reason.panic}
 use Rattle.answers.proofs.Theorems.{is-reason, has-reason, done-when, hands_out}
@@ -33,31 +33,31 @@ use Rattle.markers.proofs.Calculus.{Opens, Opens.base, Run, none as no-marker}
 use Rattle.markers.proofs.OfEntry.{source-file, one-item, one-expression}
 
 -- permitted kinds fit 16 bits
-allSmall : List ℕ → Bool
-allSmall [] = true
-allSmall (x ∷ xs) = both (small x) (allSmall xs)
+all_small : List ℕ → Bool
+all_small [] = true
+all_small (x ∷ xs) = both (small x) (all_small xs)
 
-listed_small : (xs : List ℕ) (k : ℕ) → T (allSmall xs) → one_of xs k ≡ true → k < 65536
-unfolding allSmall one_of
+listed_small : (xs : List ℕ) (k : ℕ) → T (all_small xs) → one_of xs k ≡ true → k < 65536
+unfolding all_small one_of
 listed_small [] k t h = apart h
-listed_small (x ∷ xs) k t h = by (eqb k x) refl h (listed_small xs k (both-parts (small x) (allSmall xs) t).1)
+listed_small (x ∷ xs) k t h = by (eqb k x) refl h (listed_small xs k (both-parts (small x) (all_small xs) t).1)
   where
     by : (b : Bool) → eqb k x ≡ b → cond b true (one_of xs k) ≡ true → (one_of xs k ≡ true → k < 65536) → k < 65536
-    by true q e r = rw (eqb-true k x q) (ltb→lt _ _ (both-parts (small x) (allSmall xs) t).0)
+    by true q e r = rw (eqb-true k x q) (ltb→lt _ _ (both-parts (small x) (all_small xs) t).0)
     by false q e r = r e
 
-pub kinds-small : (ks : List ℕ) → length ks ≤ firstFault ks → (i : ℕ) → get_or ks i EOF < 65536
-unfolding firstFault allSmall
+pub kinds-small : (ks : List ℕ) → length ks ≤ first_fault ks → (i : ℕ) → get_or ks i EOF < 65536
+unfolding first_fault all_small
 kinds-small [] h i = omega arith
 kinds-small (k ∷ ks) h i = by (one_of PERMITTED k) refl h i (kinds-small ks)
   where
-    by : (b : Bool) → one_of PERMITTED k ≡ b → suc (length ks) ≤ cond b (suc (firstFault ks)) 0 → (i : ℕ) → (length ks ≤ firstFault ks → (j : ℕ) → get_or ks j EOF < 65536) → get_or (k ∷ ks) i EOF < 65536
+    by : (b : Bool) → one_of PERMITTED k ≡ b → suc (length ks) ≤ cond b (suc (first_fault ks)) 0 → (i : ℕ) → (length ks ≤ first_fault ks → (j : ℕ) → get_or ks j EOF < 65536) → get_or (k ∷ ks) i EOF < 65536
     by true q g zero r = listed_small PERMITTED k tt q
     by true q g (suc i) r = r (omega arith) i
     by false q g i r = absurd (omega arith)
 
 -- every entry takes no marker and leaves none
-pub orderly : (entry : Entry) (mode : ℕ) → Run [] (actsOf entry mode) no-marker
+pub orderly : (entry : Entry) (mode : ℕ) → Run [] (acts_of entry mode) no-marker
 orderly SourceFile mode = source-file (table_of mode)
 orderly Item mode = one-item (table_of mode)
 orderly Expression mode = one-expression (table_of mode)
@@ -94,13 +94,13 @@ module _ (l : Lent) (done : (parsed l).answer.code ≡ 0) where
       by false q e = absurd (eqb-false _ _ q e)
 
   pub well-made : (o : Marks) × Opens [] [] o × Live o (events (ran l))
-  well-made = safe-run (env l.kinds l.joints) bounded (actsOf l.entry l.mode) [] (λ a o. Opens [] [] o) (view new l.room) fit-new (holds-none l.room) ((orderly l.entry l.mode).runs [] [] base) (begins l.room) ended.0
+  well-made = safe-run (env l.kinds l.joints) bounded (acts_of l.entry l.mode) [] (λ a o. Opens [] [] o) (view new l.room) fit-new (holds-none l.room) ((orderly l.entry l.mode).runs [] [] base) (begins l.room) ended.0
 
   pub event-count : length (events (ran l)) ≡ (ran l).p.len
-  event-count = length-take-le (ran l).p.len (ran l).room (held-run (env l.kinds l.joints) (actsOf l.entry l.mode) (view new l.room) (holds-none l.room))
+  event-count = length-take-le (ran l).p.len (ran l).room (held-run (env l.kinds l.joints) (acts_of l.entry l.mode) (view new l.room) (holds-none l.room))
 
   pub few-events : length (events (ran l)) ≤ 65536
-  few-events = rw event-count (fit-run (env l.kinds l.joints) (actsOf l.entry l.mode) (view new l.room) fit-new).short
+  few-events = rw event-count (fit-run (env l.kinds l.joints) (acts_of l.entry l.mode) (view new l.room) fit-new).short
 
   -- the list that is handed out is the run's
   pub handed-list : take ((parsed l).answer.events * 2) (parsed l).room ≡ words_of (events (ran l))

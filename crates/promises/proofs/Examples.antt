@@ -5,7 +5,7 @@ use mathlib.Core.List.{List, [], ◌∷◌, map}
 use Rattle.records.specs.declared.Step.{Step}
 use Rattle.records.specs.declared.Step.TheVariants.{Enter as enter, Leave as leave, Token as token, Error as error}
 use Rattle.stepfile.specs.Nesting.{nest, nests}
-use Rattle.promises.specs.Promised.{rawSum}
+use Rattle.promises.specs.Promised.{raw_sum}
 
 -- behind the enter of a root: one tree; a second root; a token outside; a node that stays open; steps that end below
 rest : List (List Step)
@@ -21,6 +21,6 @@ one-tree : map (nests 1 1) rest ≡ true ∷ false ∷ false ∷ false ∷ false
 unfolding rest nests nest
 one-tree = refl
 
-sums : map rawSum rest ≡ 3 ∷ 0 ∷ 1 ∷ 0 ∷ 0 ∷ []
-unfolding rest rawSum
+sums : map raw_sum rest ≡ 3 ∷ 0 ∷ 1 ∷ 0 ∷ 0 ∷ []
+unfolding rest raw_sum
 sums = refl

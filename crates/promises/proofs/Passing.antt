@@ -9,7 +9,7 @@ use lib.ListN.{length}
 use borrow.Author.Tests.{eqb-true, eqb-false, le-ltb}
 use Rattle.event.specs.declared.Event.{Event}
 use Rattle.event.specs.declared.Event.TheVariants.{Start, Finish, Token, Error, NoEvent}
-use Rattle.event.specs.Event.{words_of, isStart, distance}
+use Rattle.event.specs.Event.{words_of, is_start, distance}
 use Rattle.event.proofs.Rooms.{length-words, events-words}
 use Rattle.lists.specs.Answer.{says}
 use Rattle.lists.specs.Check.{lands, next, scan, checked}
@@ -29,13 +29,13 @@ chained (v ∷ l) h = (first (distance v) refl, chained l (record { lands = λ j
     first : (d : ℕ) → distance v ≡ d → lands l d ≡ true
     first zero q = refl
     first (suc d) q =
-        let s : isStart (at (v ∷ l) (0 + distance v)) ≡ true = h.lands 0 (λ z. omega arith) in
+        let s : is_start (at (v ∷ l) (0 + distance v)) ≡ true = h.lands 0 (λ z. omega arith) in
         let e : 0 + distance v ≡ suc d = omega arith in
         rw e at s
 
-    rest : (j : ℕ) → (distance (at l j) ≡ 0 → ⊥) → isStart (at l (j + distance (at l j))) ≡ true
+    rest : (j : ℕ) → (distance (at l j) ≡ 0 → ⊥) → is_start (at l (j + distance (at l j))) ≡ true
     rest j n =
-        let s : isStart (at (v ∷ l) (suc j + distance (at l j))) ≡ true = h.lands (suc j) n in
+        let s : is_start (at (v ∷ l) (suc j + distance (at l j))) ≡ true = h.lands (suc j) n in
         let e : suc j + distance (at l j) ≡ suc (j + distance (at l j)) = omega arith in
         rw e at s
 

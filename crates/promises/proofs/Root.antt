@@ -11,11 +11,11 @@ use Rattle.kinds.specs.Kinds.{TOMBSTONE, SOURCE-FILE}
 use Rattle.kinds.specs.Membership.{both}
 use Rattle.event.specs.declared.Event.{Event}
 use Rattle.event.specs.declared.Event.TheVariants.{Start, Finish, Token, Error, NoEvent}
-use Rattle.event.specs.Event.{holds, isStart, is_bare, withKind}
+use Rattle.event.specs.Event.{holds, is_start, is_bare, with_kind}
 use Rattle.event.proofs.Encoding.{bare-start}
 use Rattle.laws.proofs.Tests.{by-test, apart}
 use Rattle.input.specs.Input.{Env}
-use Rattle.runtime.specs.State.{St, view, new, live, added, rewritten, refuse, eventAt, pushEvent, named, Fit}
+use Rattle.runtime.specs.State.{St, view, new, live, added, rewritten, refuse, event_at, push_event, named, Fit}
 use Rattle.runtime.specs.Cover.{events}
 use Rattle.runtime.specs.Acts.{Act.starts, Acts, step, run, ◌>>=◌, ◌>>◌, complete}
 use Rattle.runtime.proofs.Kept.{kept_step}
@@ -23,8 +23,8 @@ use Rattle.runtime.proofs.Laws.{run_bind}
 use Rattle.runtime.proofs.Runs.{fits, Held, helds, held-run, refused-run}
 use Rattle.runs.proofs.Covered.{events-added}
 use Rattle.operators.specs.Operators.{Table}
-use Rattle.grammar.specs.Items.{sourceFileContents}
-use Rattle.grammar.specs.Entry.{counted, deepest, sourceFile}
+use Rattle.grammar.specs.Items.{source_file_contents}
+use Rattle.grammar.specs.Entry.{counted, deepest, source_file}
 use Rattle.markers.proofs.Balance.{Balanced}
 use Rattle.markers.proofs.Marks.{Marker.fresh, Marks, at, Fits, start-below}
 use Rattle.markers.proofs.Live.{Live}
@@ -36,29 +36,29 @@ use Rattle.promises.proofs.Passing.{Chain, chained}
 use Rattle.promises.proofs.Done.{fit-new, begins, holds-none}
 
 -- what `complete` leaves, where it is not refused
-completed-events : (s : St) → Held s → (i k : ℕ) → isStart (at (events s) i) ≡ true → i < length (events s) → (pushEvent Finish (named i k s)).p.refused ≡ 0
-    → events (pushEvent Finish (named i k s)) ≡ set (events s) i (withKind k (at (events s) i)) ++ Finish ∷ []
-unfolding named pushEvent
+completed-events : (s : St) → Held s → (i k : ℕ) → is_start (at (events s) i) ≡ true → i < length (events s) → (push_event Finish (named i k s)).p.refused ≡ 0
+    → events (push_event Finish (named i k s)) ≡ set (events s) i (with_kind k (at (events s) i)) ++ Finish ∷ []
+unfolding named push_event
 completed-events s h i k t l = by (live s.p) refl
   where
     r : St
-    r = rewritten i (withKind k (at (events s) i)) s
+    r = rewritten i (with_kind k (at (events s) i)) s
 
-    in-room : (b c : Bool) → live s.p ≡ b → ltb s.p.len (holds (length (set s.room i (withKind k (at (events s) i))))) ≡ c
-        → (cond b (cond c (added Finish r) (refuse 5 r)) r).p.refused ≡ 0 → events (cond b (cond c (added Finish r) (refuse 5 r)) r) ≡ set (events s) i (withKind k (at (events s) i)) ++ Finish ∷ []
+    in-room : (b c : Bool) → live s.p ≡ b → ltb s.p.len (holds (length (set s.room i (with_kind k (at (events s) i))))) ≡ c
+        → (cond b (cond c (added Finish r) (refuse 5 r)) r).p.refused ≡ 0 → events (cond b (cond c (added Finish r) (refuse 5 r)) r) ≡ set (events s) i (with_kind k (at (events s) i)) ++ Finish ∷ []
     in-room true true q w z =
-        let m : s.p.len < min (length (set s.room i (withKind k (at (events s) i)))) 65536 = ltb-true _ _ w in
-        events-added (set s.room i (withKind k (at (events s) i))) s.p.len Finish (omega arith) ∙ ap (λ (es : List Event). es ++ Finish ∷ []) (rewrote s h i (withKind k (at (events s) i)) (omega (arith, count s h)))
+        let m : s.p.len < min (length (set s.room i (with_kind k (at (events s) i)))) 65536 = ltb-true _ _ w in
+        events-added (set s.room i (with_kind k (at (events s) i))) s.p.len Finish (omega arith) ∙ ap (λ (es : List Event). es ++ Finish ∷ []) (rewrote s h i (with_kind k (at (events s) i)) (omega (arith, count s h)))
     in-room true false q w z = absurd (omega arith)
     in-room false c q w z = absurd (eqb-false _ _ q z)
 
-    still : (pushEvent Finish s).p.refused ≡ 0 → s.p.refused ≡ 0
+    still : (push_event Finish s).p.refused ≡ 0 → s.p.refused ≡ 0
     still = by-test (λ (x : St). x.p.refused ≡ 0 → s.p.refused ≡ 0) (live s.p) (cond (ltb s.p.len (holds (length s.room))) (added Finish s) (refuse 5 s)) s (λ w z. eqb-true _ _ w) (λ w z. z)
 
     by : (b : Bool) → live s.p ≡ b
-        → (pushEvent Finish (cond b (cond (isStart (eventAt s i)) (rewritten i (withKind k (eventAt s i)) s) (refuse 8 s)) s)).p.refused ≡ 0
-        → events (pushEvent Finish (cond b (cond (isStart (eventAt s i)) (rewritten i (withKind k (eventAt s i)) s) (refuse 8 s)) s)) ≡ set (events s) i (withKind k (at (events s) i)) ++ Finish ∷ []
-    by true q = rw (at-event s i h, t) (in-room (live s.p) (ltb s.p.len (holds (length (set s.room i (withKind k (at (events s) i)))))) refl refl)
+        → (push_event Finish (cond b (cond (is_start (event_at s i)) (rewritten i (with_kind k (event_at s i)) s) (refuse 8 s)) s)).p.refused ≡ 0
+        → events (push_event Finish (cond b (cond (is_start (event_at s i)) (rewritten i (with_kind k (event_at s i)) s) (refuse 8 s)) s)) ≡ set (events s) i (with_kind k (at (events s) i)) ++ Finish ∷ []
+    by true q = rw (at-event s i h, t) (in-room (live s.p) (ltb s.p.len (holds (length (set s.room i (with_kind k (at (events s) i)))))) refl refl)
     by false q = λ z. absurd (eqb-false _ _ q (still z))
 
 -- the first event of a list at whose beginning a fresh marker stands
@@ -84,7 +84,7 @@ pub record Around (k : ℕ) (l : List Event) : Type 0 where
   pub balance : Balanced 0 body 0
   pub chain : Chain body
 
-around : (k : ℕ) (l : List Event) {o : Marks} → is_bare (at l 0) ≡ true → Live o l → Around k (set l 0 (withKind k (at l 0)) ++ Finish ∷ [])
+around : (k : ℕ) (l : List Event) {o : Marks} → is_bare (at l 0) ≡ true → Live o l → Around k (set l 0 (with_kind k (at l 0)) ++ Finish ∷ [])
 around k [] b h = apart b
 around k (v ∷ body) b h =
     let e : v ≡ Start 0 0 = bare-is v b in
@@ -97,16 +97,16 @@ around k (v ∷ body) b h =
 -- the list of a source file's run
 module _ (e : Env) (b : Bounded e) (ops : Table) (ws : List ℕ) where
   abbrev contents : Acts (Unit {0})
-  contents = sourceFileContents (counted ops deepest) false
+  contents = source_file_contents (counted ops deepest) false
 
   abbrev opened : St
-  opened = pushEvent (Start TOMBSTONE 0) (view new ws)
+  opened = push_event (Start TOMBSTONE 0) (view new ws)
 
   abbrev read_all : St
   read_all = (run e contents opened).1
 
-  runs_to : (run e (sourceFile ops) (view new ws)).1 ≡ pushEvent Finish (named 0 SOURCE-FILE read_all)
-  unfolding sourceFile ◌>>=◌ run step
+  runs_to : (run e (source_file ops) (view new ws)).1 ≡ push_event Finish (named 0 SOURCE-FILE read_all)
+  unfolding source_file ◌>>=◌ run step
   runs_to = ap (λ (x : Unit {0} × St). x.1) (run_bind e contents _ opened)
 
   opened-fit : Fit opened.p
@@ -117,7 +117,7 @@ module _ (e : Env) (b : Bounded e) (ops : Table) (ws : List ℕ) where
   unfolding step
   opened-held = kept_step e Held (helds e) starts (view new ws) (holds-none ws)
 
-  read_live : (pushEvent Finish (named 0 SOURCE-FILE read_all)).p.refused ≡ 0 → read_all.p.refused ≡ 0
+  read_live : (push_event Finish (named 0 SOURCE-FILE read_all)).p.refused ≡ 0 → read_all.p.refused ≡ 0
   unfolding run step
   read_live z = by (eqb read_all.p.refused 0) refl
     where
@@ -125,11 +125,11 @@ module _ (e : Env) (b : Bounded e) (ops : Table) (ws : List ℕ) where
       by true q = eqb-true _ _ q
       by false q = sym (ap (λ (s : St). s.p.refused) (refused-run e (complete 0 SOURCE-FILE) read_all (eqb-false _ _ q))) ∙ z
 
-  pub source-around : (run e (sourceFile ops) (view new ws)).1.p.refused ≡ 0 → Around SOURCE-FILE (events (run e (sourceFile ops) (view new ws)).1)
+  pub source-around : (run e (source_file ops) (view new ws)).1.p.refused ≡ 0 → Around SOURCE-FILE (events (run e (source_file ops) (view new ws)).1)
   source-around z =
-      let y : (pushEvent Finish (named 0 SOURCE-FILE read_all)).p.refused ≡ 0 = sym (ap (λ (s : St). s.p.refused) runs_to) ∙ z in
+      let y : (push_event Finish (named 0 SOURCE-FILE read_all)).p.refused ≡ 0 = sym (ap (λ (s : St). s.p.refused) runs_to) ∙ z in
       let held : Held read_all = held-run e contents opened opened-held in
       let w = safe-run e b contents (fresh 0 ∷ []) (λ a t. Opens (fresh 0 ∷ []) [] t) opened opened-fit opened-held ((source-file-contents (counted ops deepest) (tidy ops deepest) false).runs (fresh 0 ∷ []) (fresh 0 ∷ []) base) (started (view new ws) (holds-none ws) [] (begins ws)) (read_live y) in
       let t : is_bare (at (events read_all) 0) ≡ true = bottom 0 (length (events read_all)) (events read_all) w.1 w.2.marks in
-      let st : isStart (at (events read_all) 0) ≡ true = bare-start (at (events read_all) 0) t in
+      let st : is_start (at (events read_all) 0) ≡ true = bare-start (at (events read_all) 0) t in
       rw (runs_to, completed-events read_all held 0 SOURCE-FILE st (start-below (events read_all) 0 st) y) (around SOURCE-FILE (events read_all) t w.2)

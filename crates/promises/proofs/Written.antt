@@ -14,7 +14,7 @@ use Rattle.records.specs.Record.{bytes, over, Sound, Sounds}
 use Rattle.laws.proofs.Tests.{by-test}
 use Rattle.event.specs.declared.Event.{Event}
 use Rattle.event.specs.declared.Event.TheVariants.{Start, Finish, Token, Error, NoEvent}
-use Rattle.event.specs.Event.{errorOf, decode, eventsOf, words_of, tombstone}
+use Rattle.event.specs.Event.{error_of, decode, events_of, words_of, tombstone}
 use Rattle.lists.specs.Answer.{says}
 use Rattle.lists.specs.Check.{checked}
 use Rattle.own.specs.Own.{enters, reports, own, need}
@@ -24,7 +24,7 @@ use Rattle.events.proofs.Passing.{process-need}
 use Rattle.listed.proofs.Theorems.{passing-resolves}
 use Rattle.stepfile.specs.Answer as S
 use Rattle.stepfile.specs.Nesting.{nest, nests}
-use Rattle.stepfile.specs.File.{fileRead}
+use Rattle.stepfile.specs.File.{file_read}
 use Rattle.stepfile.specs.OneByOne.{walked}
 use Rattle.stepfile.proofs.Conditions.{sounds-join}
 use Rattle.stepfile.proofs.Theorems.{steps-read, nested-done, done-nested}
@@ -47,7 +47,7 @@ reports-sound : (c x f : ℕ) → c < 65536 → x < 65536 → f < 65536 → Soun
 reports-sound c x f h l m = by-test Sound (eqb c 1) (expected x f) (error c x) (λ _. (l, m)) (λ _. (h, l))
 
 decode-fair : (a b : ℕ) → Fair (decode a b)
-unfolding decode errorOf
+unfolding decode error_of
 decode-fair a b =
     by-test Fair (eqb (a / 65536) 1) _ _ (λ _. enters-sound (a % 65536) (omega arith)) (λ _.
     by-test Fair (eqb (a / 65536) 2) _ _ (λ _. by-test Fair (eqb (a % 65536) 0) _ _ (λ _. by-test Fair (eqb b 0) _ _ (λ _. (tt, tt)) (λ _. tt)) (λ _. tt)) (λ _.
@@ -58,8 +58,8 @@ decode-fair a b =
     (λ _. by-test Fair (ltb b 65536) _ _ (λ l. (reports-sound (a % 65536) b 0 (omega arith) (ltb-true b 65536 l) (omega arith), tt)) (λ _. tt)))
     (λ _. tt))))
 
-events-fair : (ws : List ℕ) → Fairs (eventsOf ws)
-unfolding eventsOf
+events-fair : (ws : List ℕ) → Fairs (events_of ws)
+unfolding events_of
 events-fair [] = tt
 events-fair (a ∷ []) = tt
 events-fair (a ∷ (b ∷ ws)) = (decode-fair a b, events-fair ws)
@@ -106,11 +106,11 @@ turns-sound (suc n) p (e ∷ es) h =
     rw map-append (sounds-join (steps_of (turn p e es).steps) (steps_of (turns n (suc p) (turn p e es).left).steps) r.0 (turns-sound n (suc p) (turn p e es).left r.1))
 
 -- the steps that some words resolve to, and their file
-abbrev pub stepsFrom : List ℕ → List Step
-stepsFrom ws = steps_of (process (eventsOf ws)).steps
+abbrev pub steps_from : List ℕ → List Step
+steps_from ws = steps_of (process (events_of ws)).steps
 
-pub steps-sound : (ws : List ℕ) → Sounds (stepsFrom ws)
-steps-sound ws = turns-sound (length (eventsOf ws)) 0 (eventsOf ws) (events-fair ws)
+pub steps-sound : (ws : List ℕ) → Sounds (steps_from ws)
+steps-sound ws = turns-sound (length (events_of ws)) 0 (events_of ws) (events-fair ws)
 
 -- ---- read back
 
@@ -118,19 +118,19 @@ steps-sound ws = turns-sound (length (eventsOf ws)) 0 (eventsOf ws) (events-fair
 pub record ReadsBack (ws out : List ℕ) : Type 0 where
   pub size : ℕ
   pub room : List ℕ
-  pub left : resolved ws out ≡ ends (says 0 size) (words_of (replicate (length (eventsOf ws)) tombstone)) room
-  pub reads : walked (take size room) ≡ record { steps = stepsFrom ws; rest = [] }
-  pub again : bytes (stepsFrom ws) ≡ take size room
+  pub left : resolved ws out ≡ ends (says 0 size) (words_of (replicate (length (events_of ws)) tombstone)) room
+  pub reads : walked (take size room) ≡ record { steps = steps_from ws; rest = [] }
+  pub again : bytes (steps_from ws) ≡ take size room
 
 module _ (ws : List ℕ) (passes : (checked ws).code ≡ 0) where
-  pub reads-back : (out : List ℕ) → need (eventsOf ws) ≤ length out → ReadsBack ws out
+  pub reads-back : (out : List ℕ) → need (events_of ws) ≤ length out → ReadsBack ws out
   reads-back out h =
-      let e : take (need (eventsOf ws)) (over out 0 (bytes (stepsFrom ws))) ≡ bytes (stepsFrom ws) = take_at (bytes (stepsFrom ws)) _ (need (eventsOf ws)) (process-need (eventsOf ws)) in
+      let e : take (need (events_of ws)) (over out 0 (bytes (steps_from ws))) ≡ bytes (steps_from ws) = take_at (bytes (steps_from ws)) _ (need (events_of ws)) (process-need (events_of ws)) in
       record {
-        size = need (eventsOf ws);
-        room = over out 0 (bytes (stepsFrom ws));
+        size = need (events_of ws);
+        room = over out 0 (bytes (steps_from ws));
         left = passing-resolves ws passes out h;
-        reads = rw e (steps-read (stepsFrom ws) (steps-sound ws));
+        reads = rw e (steps-read (steps_from ws) (steps-sound ws));
         again = sym e;
       }
 
@@ -140,8 +140,8 @@ unfolding nests nest
 rooted-nests k ss r = rw r.first r.whole
 
 -- It is a good file exactly where the steps nest: then the whole-file call says its bytes and its steps.
-pub file-good : (ws : List ℕ) → nests 0 0 (stepsFrom ws) ≡ true → fileRead (bytes (stepsFrom ws)) ≡ S.says 0 (length (bytes (stepsFrom ws))) (length (stepsFrom ws))
-file-good ws e = nested-done (stepsFrom ws) (steps-sound ws) e
+pub file-good : (ws : List ℕ) → nests 0 0 (steps_from ws) ≡ true → file_read (bytes (steps_from ws)) ≡ S.says 0 (length (bytes (steps_from ws))) (length (steps_from ws))
+file-good ws e = nested-done (steps_from ws) (steps-sound ws) e
 
-pub good-file : (ws : List ℕ) → (fileRead (bytes (stepsFrom ws))).code ≡ 0 → nests 0 0 (stepsFrom ws) ≡ true
-good-file ws e = done-nested (stepsFrom ws) (steps-sound ws) e
+pub good-file : (ws : List ℕ) → (file_read (bytes (steps_from ws))).code ≡ 0 → nests 0 0 (steps_from ws) ≡ true
+good-file ws e = done-nested (steps_from ws) (steps-sound ws) e

@@ -16,21 +16,21 @@ SaysAt e i (token k n) = Stands e i k n
 SaysAt e i (error c a) = c ≡ 1 → ⊥
 SaysAt e i (expected k f) = f ≡ kind e.kinds i
 
-abbrev pub rawOf : Step → ℕ
-rawOf (enter k) = 0
-rawOf leave = 0
-rawOf (token k n) = n
-rawOf (error c a) = 0
-rawOf (expected k f) = 0
+abbrev pub raw_of : Step → ℕ
+raw_of (enter k) = 0
+raw_of leave = 0
+raw_of (token k n) = n
+raw_of (error c a) = 0
+raw_of (expected k f) = 0
 
 abbrev pub CoverSteps : Env → ℕ → List Step → ℕ → Type 0
 CoverSteps e i [] j = i ≡ j
-CoverSteps e i (s ∷ ss) j = SaysAt e i s × CoverSteps e (i + rawOf s) ss j
+CoverSteps e i (s ∷ ss) j = SaysAt e i s × CoverSteps e (i + raw_of s) ss j
 
 -- the raw counts, added up
-unfoldable pub rawSum : List Step → ℕ
-rawSum [] = 0
-rawSum (s ∷ ss) = rawOf s + rawSum ss
+unfoldable pub raw_sum : List Step → ℕ
+raw_sum [] = 0
+raw_sum (s ∷ ss) = raw_of s + raw_sum ss
 
 -- One tree whose root is a node of a kind: behind its enter, the steps leave the last node that is open with the last step, and not before.
 pub record Rooted (k : ℕ) (ss : List Step) : Type 0 where

@@ -13,7 +13,7 @@ use Rattle.lexical.specs.Lexed.{Token, lexed}
 use Rattle.lexical.specs.Rules.{rules}
 use Rattle.lexical.proofs.Theorem.{lexed-right}
 use Rattle.lex.specs.declared.Answer.{Answer}
-use Rattle.lex.specs.Lexing.{kindsIn, fits, Lent, Outcome, ends, says, refuses, writes, lexing}
+use Rattle.lex.specs.Lexing.{kinds_in, fits, Lent, Outcome, ends, says, refuses, writes, lexing}
 use Rattle.lex.proofs.Laws.{Held, held}
 use Rattle.lex.proofs.Placed.{written, refused, too_long, not-long}
 use Rattle.readings.specs.Readings.{Reading, Small, Small.few_words, Small.few-kinds, Small.few_bits, Refused, Refused.long, Refused.small, Answers}
@@ -30,9 +30,9 @@ pub bits-words : (n j : ℕ) → j < (n + 63) / 64 → 64 * j < n
 bits-words n j h = omega (arith, h)
 
 unfit : (ts : List Token) (l : Lent) → Small ts l → fits ts l ≡ true → ⊥
-unfit ts l s e = by s (held (length ts) (length (kindsIn ts)) (length l.kinds) (length l.joints) (length l.tokens) e)
+unfit ts l s e = by s (held (length ts) (length (kinds_in ts)) (length l.kinds) (length l.joints) (length l.tokens) e)
   where
-    by : Small ts l → Held (length ts) (length (kindsIn ts)) (length l.kinds) (length l.joints) (length l.tokens) → ⊥
+    by : Small ts l → Held (length ts) (length (kinds_in ts)) (length l.kinds) (length l.joints) (length l.tokens) → ⊥
     by (few_words h) k = omega (arith, h, k.words)
     by (few-kinds h) k = omega (arith, h, k.numbers)
     by (few_bits h) k = omega (arith, h, k.bits)
@@ -46,9 +46,9 @@ small-unfit ts l s = by (fits ts l) refl
 
 pub unfit-small : (ts : List Token) (l : Lent) → fits ts l ≡ false → Small ts l
 unfit-small ts l e =
-    by (leb (2 * length ts) (length l.tokens)) (leb (length (kindsIn ts)) (length l.kinds)) (leb ((length (kindsIn ts) + 63) / 64) (length l.joints)) refl refl refl e
+    by (leb (2 * length ts) (length l.tokens)) (leb (length (kinds_in ts)) (length l.kinds)) (leb ((length (kinds_in ts) + 63) / 64) (length l.joints)) refl refl refl e
   where
-    by : (a b c : Bool) → leb (2 * length ts) (length l.tokens) ≡ a → leb (length (kindsIn ts)) (length l.kinds) ≡ b → leb ((length (kindsIn ts) + 63) / 64) (length l.joints) ≡ c → both a (both b c) ≡ false → Small ts l
+    by : (a b c : Bool) → leb (2 * length ts) (length l.tokens) ≡ a → leb (length (kinds_in ts)) (length l.kinds) ≡ b → leb ((length (kinds_in ts) + 63) / 64) (length l.joints) ≡ c → both a (both b c) ≡ false → Small ts l
     by false b c ea eb ec e = few_words (leb-false _ _ ea)
     by true false c ea eb ec e = few-kinds (leb-false _ _ eb)
     by true true false ea eb ec e = few_bits (bits-words _ _ (leb-false _ _ ec))
@@ -126,8 +126,8 @@ module _ (l : Lent) where
   pub done-writes : (lexing l).answer.code ≡ 0 → (ts : List Token) → Reading l.text ts → lexing l ≡ writes ts l
   done-writes e = done-when (when-done e)
 
-  pub done-holds : (lexing l).answer.code ≡ 0 → (ts : List Token) → Reading l.text ts → Held (length ts) (length (kindsIn ts)) (length l.kinds) (length l.joints) (length l.tokens)
-  done-holds e ts r = held (length ts) (length (kindsIn ts)) (length l.kinds) (length l.joints) (length l.tokens) (by (ltb 65536 (length l.text)) refl (fits ts l) refl)
+  pub done-holds : (lexing l).answer.code ≡ 0 → (ts : List Token) → Reading l.text ts → Held (length ts) (length (kinds_in ts)) (length l.kinds) (length l.joints) (length l.tokens)
+  done-holds e ts r = held (length ts) (length (kinds_in ts)) (length l.kinds) (length l.joints) (length l.tokens) (by (ltb 65536 (length l.text)) refl (fits ts l) refl)
     where
       by : (x : Bool) → ltb 65536 (length l.text) ≡ x → (y : Bool) → fits ts l ≡ y → fits ts l ≡ true
       by true c y f = absurd (when-done e 14 0 (long (ltb-true _ _ c)))

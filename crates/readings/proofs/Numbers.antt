@@ -12,16 +12,16 @@ use Rattle.kinds.specs.Kinds.{WHITESPACE, COMMENT}
 use Rattle.kinds.specs.Membership.{one_of}
 use Rattle.laws.proofs.Tests.{apart}
 use Rattle.lexical.specs.Lexed.{Rule, Token, nothing, token, Tiles}
-use Rattle.lex.specs.Lexing.{isTrivia, kindsIn}
+use Rattle.lex.specs.Lexing.{is_trivia, kinds_in}
 use Rattle.readings.specs.Readings.{kind, size, Trivia, Other, number_of, Numbered}
 
 -- ---- trivia
 
-pub other-kind : (k : ℕ) → (Trivia k → ⊥) → isTrivia k ≡ false
+pub other-kind : (k : ℕ) → (Trivia k → ⊥) → is_trivia k ≡ false
 unfolding one_of
 other-kind k h = rw (ne_eqb k WHITESPACE (λ e. h (inl e)), ne_eqb k COMMENT (λ e. h (inr e)))
 
-pub kind-other : (k : ℕ) → isTrivia k ≡ false → Trivia k → ⊥
+pub kind-other : (k : ℕ) → is_trivia k ≡ false → Trivia k → ⊥
 unfolding one_of
 kind-other k e (inl q) = apart (sym e ∙ rw (eq-eqb k WHITESPACE q))
 kind-other k e (inr q) = by (eqb k WHITESPACE) refl
@@ -30,7 +30,7 @@ kind-other k e (inr q) = by (eqb k WHITESPACE) refl
     by true c = apart (sym e ∙ rw c)
     by false c = apart (sym e ∙ rw (c, eq-eqb k COMMENT q))
 
-trivia-is : (k : ℕ) → isTrivia k ≡ true → Trivia k
+trivia-is : (k : ℕ) → is_trivia k ≡ true → Trivia k
 unfolding one_of
 trivia-is k e = by (eqb k WHITESPACE) refl (eqb k COMMENT) refl
   where
@@ -50,25 +50,25 @@ token-there rs w (token k n ∷ ts) t (suc j) h = ap (λ (us : List Token). toke
 
 -- numbers are in the order of the tokens
 pub numbers-grow : (ts : List Token) (i j : ℕ) → i ≤ j → number_of ts i ≤ number_of ts j
-unfolding kindsIn
+unfolding kinds_in
 numbers-grow ts zero j h = omega arith
 numbers-grow [] (suc i) j h = omega arith
 numbers-grow (t ∷ ts) (suc i) zero h = absurd (omega (arith, h))
 numbers-grow (nothing ∷ ts) (suc i) (suc j) h = numbers-grow ts i j (omega (arith, h))
-numbers-grow (token k n ∷ ts) (suc i) (suc j) h = by (isTrivia k) (numbers-grow ts i j (omega (arith, h)))
+numbers-grow (token k n ∷ ts) (suc i) (suc j) h = by (is_trivia k) (numbers-grow ts i j (omega (arith, h)))
   where
-    by : (x : Bool) → number_of ts i ≤ number_of ts j → length (cond x (kindsIn (take i ts)) (k ∷ kindsIn (take i ts))) ≤ length (cond x (kindsIn (take j ts)) (k ∷ kindsIn (take j ts)))
+    by : (x : Bool) → number_of ts i ≤ number_of ts j → length (cond x (kinds_in (take i ts)) (k ∷ kinds_in (take i ts))) ≤ length (cond x (kinds_in (take j ts)) (k ∷ kinds_in (take j ts)))
     by true l = l
     by false l = omega (arith, l)
 
 -- each number is one token's
-pub numbered : (rs : List Rule) (w : List ℕ) (ts : List Token) → Tiles rs w ts → (i : ℕ) → i < length (kindsIn ts) → Numbered ts i
-unfolding kindsIn
+pub numbered : (rs : List Rule) (w : List ℕ) (ts : List Token) → Tiles rs w ts → (i : ℕ) → i < length (kinds_in ts) → Numbered ts i
+unfolding kinds_in
 numbered rs w [] t i h = absurd (omega arith)
 numbered rs w (nothing ∷ ts) t i h = absurd t
-numbered rs w (token k n ∷ ts) t i h = by (isTrivia k) refl i h (λ j l. numbered rs (drop n w) ts t.1 j l)
+numbered rs w (token k n ∷ ts) t i h = by (is_trivia k) refl i h (λ j l. numbered rs (drop n w) ts t.1 j l)
   where
-    by : (x : Bool) → isTrivia k ≡ x → (i : ℕ) → i < length (cond x (kindsIn ts) (k ∷ kindsIn ts)) → ((j : ℕ) → j < length (kindsIn ts) → Numbered ts j) → Numbered (token k n ∷ ts) i
+    by : (x : Bool) → is_trivia k ≡ x → (i : ℕ) → i < length (cond x (kinds_in ts) (k ∷ kinds_in ts)) → ((j : ℕ) → j < length (kinds_in ts) → Numbered ts j) → Numbered (token k n ∷ ts) i
     by true e i h f =
         record {
           place = suc m.place;
@@ -87,7 +87,7 @@ numbered rs w (token k n ∷ ts) t i h = by (isTrivia k) refl i h (λ j l. numbe
       where
         only : (j : ℕ) → Other (token k n ∷ ts) j → number_of (token k n ∷ ts) j ≡ 0 → j ≡ 0
         only zero o q = refl
-        only (suc j) o q = let z : suc (length (kindsIn (take j ts))) ≡ 0 = rw e at q in absurd (omega (arith, z))
+        only (suc j) o q = let z : suc (length (kinds_in (take j ts))) ≡ 0 = rw e at q in absurd (omega (arith, z))
     by false e (suc i) h f =
         record {
           place = suc m.place;
@@ -102,5 +102,5 @@ numbered rs w (token k n ∷ ts) t i h = by (isTrivia k) refl i h (λ j l. numbe
         only : (j : ℕ) → Other (token k n ∷ ts) j → number_of (token k n ∷ ts) j ≡ suc i → j ≡ suc m.place
         only zero o q = absurd (omega (arith, q))
         only (suc j) o q =
-            let z : suc (length (kindsIn (take j ts))) ≡ suc i = rw e at q in
+            let z : suc (length (kinds_in (take j ts))) ≡ suc i = rw e at q in
             ap suc (m.only j (record { there = omega (arith, o.there); other = o.other }) (omega (arith, z)))

@@ -10,7 +10,7 @@ use Rattle.kinds.specs.Membership.{bit}
 use Rattle.laws.proofs.Tests.{apart}
 use Rattle.lexical.specs.Lexed.{Rule, Token, nothing, token, Tiles, words}
 use Rattle.lexical.specs.Rules.{rules}
-use Rattle.lex.specs.Lexing.{isTrivia, kindsIn, touched, jointsIn, atFront, Lent, writes, lexing}
+use Rattle.lex.specs.Lexing.{is_trivia, kinds_in, touched, joints_in, at_front, Lent, writes, lexing}
 use Rattle.lex.proofs.Laws.{Held}
 use Rattle.readings.specs.Readings.{Reading, kind, size, Left, Trivia, Other, number_of, Begins, start_of}
 use Rattle.readings.proofs.Joints.{bits-length, bits_put, bits-kept}
@@ -22,13 +22,13 @@ use Rattle.readings.proofs.Conditions.{done-writes, done-holds}
 
 -- ---- a room with a list at its front
 
-front-size : (xs room : List ℕ) → length xs ≤ length room → length (atFront xs room) ≡ length room
+front-size : (xs room : List ℕ) → length xs ≤ length room → length (at_front xs room) ≡ length room
 front-size xs room h = length-append xs (drop (length xs) room) ∙ omega (arith, h, length-drop (length xs) room)
 
-front-there : (xs room : List ℕ) (i : ℕ) → i < length xs → get_or (atFront xs room) i 0 ≡ get_or xs i 0
+front-there : (xs room : List ℕ) (i : ℕ) → i < length xs → get_or (at_front xs room) i 0 ≡ get_or xs i 0
 front-there xs room i h = get_or-append xs (drop (length xs) room) 0 i h
 
-front-stays : (xs room : List ℕ) (i : ℕ) → length xs ≤ i → get_or (atFront xs room) i 0 ≡ get_or room i 0
+front-stays : (xs room : List ℕ) (i : ℕ) → length xs ≤ i → get_or (at_front xs room) i 0 ≡ get_or room i 0
 front-stays xs room i h =
     let e : length xs + (i - length xs) ≡ i = omega (arith, h) in
     rw e at (get_or-append-add xs (drop (length xs) room) (i - length xs) 0 ∙ get_or-drop (length xs) room (i - length xs) 0)
@@ -55,7 +55,7 @@ words-at rs w (token k n ∷ ts) t (suc i) h =
 pub done-left : (l : Lent) → (lexing l).answer.code ≡ 0 → (ts : List Token) → Reading l.text ts → Left ts l (lexing l)
 done-left l e ts r = rw (done-writes l e ts r) left
   where
-    h : Held (length ts) (length (kindsIn ts)) (length l.kinds) (length l.joints) (length l.tokens)
+    h : Held (length ts) (length (kinds_in ts)) (length l.kinds) (length l.joints) (length l.tokens)
     h = done-holds l e ts r
 
     size_of : length (words ts) ≡ 2 * length ts
@@ -64,13 +64,13 @@ done-left l e ts r = rw (done-writes l e ts r) left
     left : Left ts l (writes ts l)
     left =
         record {
-          kinds-size = front-size (kindsIn ts) l.kinds h.numbers;
-          joints-size = bits-length 0 (jointsIn ts) l.joints;
+          kinds-size = front-size (kinds_in ts) l.kinds h.numbers;
+          joints-size = bits-length 0 (joints_in ts) l.joints;
           tokens-size = front-size (words ts) l.tokens (omega (arith, h.words, size_of));
-          kind-there = λ i g. front-there (kindsIn ts) l.kinds i g;
-          kind-stays = λ i g. front-stays (kindsIn ts) l.kinds i g;
-          joint-there = λ i g. bits_put (jointsIn ts) l.joints i (omega (arith, g, joints-kinds ts)) (omega (arith, h.bits, joints-kinds ts));
-          joint-stays = λ i g. bits-kept (jointsIn ts) l.joints i (omega (arith, g, joints-kinds ts));
+          kind-there = λ i g. front-there (kinds_in ts) l.kinds i g;
+          kind-stays = λ i g. front-stays (kinds_in ts) l.kinds i g;
+          joint-there = λ i g. bits_put (joints_in ts) l.joints i (omega (arith, g, joints-kinds ts)) (omega (arith, h.bits, joints-kinds ts));
+          joint-stays = λ i g. bits-kept (joints_in ts) l.joints i (omega (arith, g, joints-kinds ts));
           token-kind = λ i g. front-there (words ts) l.tokens (2 * i) (omega (arith, g, size_of)) ∙ (words-at rules l.text ts r i g).0;
           token-size = λ i g. front-there (words ts) l.tokens (2 * i + 1) (omega (arith, g, size_of)) ∙ (words-at rules l.text ts r i g).1;
           word-stays = λ i g. front-stays (words ts) l.tokens i (omega (arith, g, size_of));
@@ -78,23 +78,23 @@ done-left l e ts r = rw (done-writes l e ts r) left
 
 -- ---- a token among the others
 
-pub kinds-at : (us vs : List Token) (k n : ℕ) → isTrivia k ≡ false → (length (kindsIn us) < length (kindsIn (us ++ token k n ∷ vs))) × (get_or (kindsIn (us ++ token k n ∷ vs)) (length (kindsIn us)) 0 ≡ k)
-unfolding kindsIn
+pub kinds-at : (us vs : List Token) (k n : ℕ) → is_trivia k ≡ false → (length (kinds_in us) < length (kinds_in (us ++ token k n ∷ vs))) × (get_or (kinds_in (us ++ token k n ∷ vs)) (length (kinds_in us)) 0 ≡ k)
+unfolding kinds_in
 kinds-at [] vs k n e = rw e (omega arith, refl)
 kinds-at (nothing ∷ us) vs k n e = kinds-at us vs k n e
-kinds-at (token j m ∷ us) vs k n e = by (isTrivia j) (kinds-at us vs k n e)
+kinds-at (token j m ∷ us) vs k n e = by (is_trivia j) (kinds-at us vs k n e)
   where
-    by : (x : Bool) → (length (kindsIn us) < length (kindsIn (us ++ token k n ∷ vs))) × (get_or (kindsIn (us ++ token k n ∷ vs)) (length (kindsIn us)) 0 ≡ k) → (length (cond x (kindsIn us) (j ∷ kindsIn us)) < length (cond x (kindsIn (us ++ token k n ∷ vs)) (j ∷ kindsIn (us ++ token k n ∷ vs)))) × (get_or (cond x (kindsIn (us ++ token k n ∷ vs)) (j ∷ kindsIn (us ++ token k n ∷ vs))) (length (cond x (kindsIn us) (j ∷ kindsIn us))) 0 ≡ k)
+    by : (x : Bool) → (length (kinds_in us) < length (kinds_in (us ++ token k n ∷ vs))) × (get_or (kinds_in (us ++ token k n ∷ vs)) (length (kinds_in us)) 0 ≡ k) → (length (cond x (kinds_in us) (j ∷ kinds_in us)) < length (cond x (kinds_in (us ++ token k n ∷ vs)) (j ∷ kinds_in (us ++ token k n ∷ vs)))) × (get_or (cond x (kinds_in (us ++ token k n ∷ vs)) (j ∷ kinds_in (us ++ token k n ∷ vs))) (length (cond x (kinds_in us) (j ∷ kinds_in us))) 0 ≡ k)
     by true p = p
     by false p = (omega (arith, p.0), p.1)
 
-joints-at : (us vs : List Token) (k n : ℕ) → isTrivia k ≡ false → get_or (jointsIn (us ++ token k n ∷ vs)) (length (kindsIn us)) false ≡ touched vs
-unfolding kindsIn jointsIn
+joints-at : (us vs : List Token) (k n : ℕ) → is_trivia k ≡ false → get_or (joints_in (us ++ token k n ∷ vs)) (length (kinds_in us)) false ≡ touched vs
+unfolding kinds_in joints_in
 joints-at [] vs k n e = rw e
 joints-at (nothing ∷ us) vs k n e = joints-at us vs k n e
-joints-at (token j m ∷ us) vs k n e = by (isTrivia j) (touched (us ++ token k n ∷ vs)) (joints-at us vs k n e)
+joints-at (token j m ∷ us) vs k n e = by (is_trivia j) (touched (us ++ token k n ∷ vs)) (joints-at us vs k n e)
   where
-    by : (x b : Bool) → get_or (jointsIn (us ++ token k n ∷ vs)) (length (kindsIn us)) false ≡ touched vs → get_or (cond x (jointsIn (us ++ token k n ∷ vs)) (b ∷ jointsIn (us ++ token k n ∷ vs))) (length (cond x (kindsIn us) (j ∷ kindsIn us))) false ≡ touched vs
+    by : (x b : Bool) → get_or (joints_in (us ++ token k n ∷ vs)) (length (kinds_in us)) false ≡ touched vs → get_or (cond x (joints_in (us ++ token k n ∷ vs)) (b ∷ joints_in (us ++ token k n ∷ vs))) (length (cond x (kinds_in us) (j ∷ kinds_in us))) false ≡ touched vs
     by true b p = p
     by false b p = p
 
@@ -102,7 +102,7 @@ joints-at (token j m ∷ us) vs k n e = by (isTrivia j) (touched (us ++ token k 
 touched-is : (w : List ℕ) (vs : List Token) → Reading w vs → touched vs ≡ true → Begins w
 touched-is w [] t e = apart e
 touched-is w (nothing ∷ vs) t e = apart e
-touched-is w (token k n ∷ vs) t e = record { first = k; bytes = n; right = t.0; other = kind-other k (by (isTrivia k) e) }
+touched-is w (token k n ∷ vs) t e = record { first = k; bytes = n; right = t.0; other = kind-other k (by (is_trivia k) e) }
   where
     by : (x : Bool) → not x ≡ true → x ≡ false
     by true c = apart c
@@ -116,12 +116,12 @@ is-touched w (token k n ∷ vs) t b = let e = longest-one rules w b.first b.byte
 -- A token that is no trivia behind some others: its kind stands at its number among them that are none, and the joint bit there is 1 exactly where
 -- the byte behind the token begins a token that is no trivia.
 module _ (l : Lent) (d : (lexing l).answer.code ≡ 0) (us vs : List Token) (k n : ℕ) (r : Reading l.text (us ++ token k n ∷ vs)) (other : Trivia k → ⊥) where
-  pub kind-is : get_or (lexing l).kinds (length (kindsIn us)) 0 ≡ k
-  kind-is = let p = kinds-at us vs k n (other-kind k other) in (done-left l d (us ++ token k n ∷ vs) r).kind-there (length (kindsIn us)) p.0 ∙ p.1
+  pub kind-is : get_or (lexing l).kinds (length (kinds_in us)) 0 ≡ k
+  kind-is = let p = kinds-at us vs k n (other-kind k other) in (done-left l d (us ++ token k n ∷ vs) r).kind-there (length (kinds_in us)) p.0 ∙ p.1
 
-  pub joint-is : bit (lexing l).joints (length (kindsIn us)) ≡ touched vs
+  pub joint-is : bit (lexing l).joints (length (kinds_in us)) ≡ touched vs
   joint-is =
-      (done-left l d (us ++ token k n ∷ vs) r).joint-there (length (kindsIn us)) (kinds-at us vs k n (other-kind k other)).0
+      (done-left l d (us ++ token k n ∷ vs) r).joint-there (length (kinds_in us)) (kinds-at us vs k n (other-kind k other)).0
       ∙ joints-at us vs k n (other-kind k other)
 
   rest-reads : Reading (drop (start_of (us ++ token k n ∷ vs) (length us) + n) l.text) vs
@@ -129,10 +129,10 @@ module _ (l : Lent) (d : (lexing l).answer.code ≡ 0) (us vs : List Token) (k n
       subst (λ (w : List ℕ). Reading w vs) (drop-drop n (start_of (us ++ token k n ∷ vs) (length us)) l.text)
       (reads-behind rules l.text us (token k n ∷ vs) r).1
 
-  pub joint-when : Begins (drop (start_of (us ++ token k n ∷ vs) (length us) + n) l.text) → bit (lexing l).joints (length (kindsIn us)) ≡ true
+  pub joint-when : Begins (drop (start_of (us ++ token k n ∷ vs) (length us) + n) l.text) → bit (lexing l).joints (length (kinds_in us)) ≡ true
   joint-when b = joint-is ∙ is-touched (drop (start_of (us ++ token k n ∷ vs) (length us) + n) l.text) vs rest-reads b
 
-  pub when-joint : bit (lexing l).joints (length (kindsIn us)) ≡ true → Begins (drop (start_of (us ++ token k n ∷ vs) (length us) + n) l.text)
+  pub when-joint : bit (lexing l).joints (length (kinds_in us)) ≡ true → Begins (drop (start_of (us ++ token k n ∷ vs) (length us) + n) l.text)
   when-joint e = touched-is (drop (start_of (us ++ token k n ∷ vs) (length us) + n) l.text) vs rest-reads (sym joint-is ∙ e)
 
 -- The same of token j of a reading.
@@ -146,10 +146,10 @@ module _ (l : Lent) (d : (lexing l).answer.code ≡ 0) (ts : List Token) (r : Re
   same_start : start_of (take j ts ++ token (kind (get_or ts j nothing)) (size (get_or ts j nothing)) ∷ drop (suc j) ts) (length (take j ts)) ≡ start_of ts j
   same_start = let q : length (take j ts) ≡ j = length-take-le j ts (omega (arith, o.there)) in λ i. start_of (sym apart-at i) (q i)
 
-  pub number-below : number_of ts j < length (kindsIn ts)
+  pub number-below : number_of ts j < length (kinds_in ts)
   number-below =
       let p = kinds-at (take j ts) (drop (suc j) ts) (kind (get_or ts j nothing)) (size (get_or ts j nothing)) (other-kind (kind (get_or ts j nothing)) o.other) in
-      omega (arith, p.0, ap (λ (us : List Token). length (kindsIn us)) apart-at)
+      omega (arith, p.0, ap (λ (us : List Token). length (kinds_in us)) apart-at)
 
   pub kind_at : get_or (lexing l).kinds (number_of ts j) 0 ≡ kind (get_or ts j nothing)
   kind_at = kind-is l d (take j ts) (drop (suc j) ts) (kind (get_or ts j nothing)) (size (get_or ts j nothing)) reads-apart o.other

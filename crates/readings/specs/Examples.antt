@@ -5,7 +5,7 @@ use Rattle.kinds.specs.Membership.{one_of}
 use Rattle.lexical.specs.Texts.{bytes}
 use Rattle.lexical.specs.Lexed.{tokens, lexed, words}
 use Rattle.lexical.specs.Rules.{rules}
-use Rattle.lex.specs.Lexing.{kindsIn, jointsIn, putBits, Lent, lent, Outcome, ends, says, refuses, lexing}
+use Rattle.lex.specs.Lexing.{kinds_in, joints_in, put_bits, Lent, lent, Outcome, ends, says, refuses, lexing}
 
 -- ---- kinds and joint bits
 
@@ -31,7 +31,7 @@ pairs (k ∷ ks) [] = []
 pairs (k ∷ ks) (b ∷ bs) = (k, b) ∷ pairs ks bs
 
 abbrev got : Row → Row
-got r = row r.text (length (lexed rules r.text)) (pairs (kindsIn (lexed rules r.text)) (jointsIn (lexed rules r.text)))
+got r = row r.text (length (lexed rules r.text)) (pairs (kinds_in (lexed rules r.text)) (joints_in (lexed rules r.text)))
 
 rows : List Row
 rows =
@@ -60,7 +60,7 @@ rows =
     ∷ []
 
 table : map got rows ≡ rows
-unfolding rows tokens kindsIn jointsIn one_of
+unfolding rows tokens kinds_in joints_in one_of
 table = refl
 
 -- ---- whole calls
@@ -114,7 +114,7 @@ calls =
     ∷ []
 
 called : map made calls ≡ calls
-unfolding calls text lexing tokens kindsIn jointsIn putBits words one_of
+unfolding calls text lexing tokens kinds_in joints_in put_bits words one_of
 called = refl
 
 -- 65,537 bytes are too many

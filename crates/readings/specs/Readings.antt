@@ -4,7 +4,7 @@ use Rattle.kinds.specs.Kinds.{WHITESPACE, COMMENT}
 use Rattle.kinds.specs.Membership.{bit}
 use Rattle.lexical.specs.Lexed.{Token, nothing, token, Longest, Tiles, words}
 use Rattle.lexical.specs.Rules.{rules}
-use Rattle.lex.specs.Lexing.{kindsIn, jointsIn, putBits, Lent, Outcome, ends, says}
+use Rattle.lex.specs.Lexing.{kinds_in, joints_in, put_bits, Lent, Outcome, ends, says}
 
 -- A text reads as some tokens: each is the longest that a rule takes, of the first such rule, and they stand one behind the other up to the end.
 abbrev pub Reading : List ℕ → List Token → Type 0
@@ -15,8 +15,8 @@ Reading text ts = Tiles rules text ts
 -- a room is too small for some tokens: two words for each, a number for each kind, and 64 joint bits to a word
 pub data Small (ts : List Token) (l : Lent) : Type 0 where
   few_words : length l.tokens < 2 * length ts → Small ts l
-  few-kinds : length l.kinds < length (kindsIn ts) → Small ts l
-  few_bits : 64 * length l.joints < length (kindsIn ts) → Small ts l
+  few-kinds : length l.kinds < length (kinds_in ts) → Small ts l
+  few_bits : 64 * length l.joints < length (kinds_in ts) → Small ts l
 
 -- The conditions, each with its number and place: a text that is too long, and one that is not, for whose reading a room is too small.
 pub data Refused (l : Lent) : ℕ → ℕ → Type 0 where
@@ -27,7 +27,7 @@ pub data Refused (l : Lent) : ℕ → ℕ → Type 0 where
 pub data Answers (l : Lent) : Outcome → Type 0 where
   refuses : (n p : ℕ) → Refused l n p → Answers l (ends (says n p 0) l.kinds l.joints l.tokens)
   done : ((n p : ℕ) → Refused l n p → ⊥) → (ts : List Token) → Reading l.text ts
-      → Answers l (ends (says 0 (length ts) (length (kindsIn ts))) (kindsIn ts ++ drop (length (kindsIn ts)) l.kinds) (putBits 0 (jointsIn ts) l.joints) (words ts ++ drop (length (words ts)) l.tokens))
+      → Answers l (ends (says 0 (length ts) (length (kinds_in ts))) (kinds_in ts ++ drop (length (kinds_in ts)) l.kinds) (put_bits 0 (joints_in ts) l.joints) (words ts ++ drop (length (words ts)) l.tokens))
 
 -- ---- what is left
 
@@ -45,10 +45,10 @@ pub record Left (ts : List Token) (l : Lent) (o : Outcome) : Type 0 where
   pub kinds-size : length o.kinds ≡ length l.kinds
   pub joints-size : length o.joints ≡ length l.joints
   pub tokens-size : length o.tokens ≡ length l.tokens
-  pub kind-there : (i : ℕ) → i < length (kindsIn ts) → get_or o.kinds i 0 ≡ get_or (kindsIn ts) i 0
-  pub kind-stays : (i : ℕ) → length (kindsIn ts) ≤ i → get_or o.kinds i 0 ≡ get_or l.kinds i 0
-  pub joint-there : (i : ℕ) → i < length (kindsIn ts) → bit o.joints i ≡ get_or (jointsIn ts) i false
-  pub joint-stays : (i : ℕ) → length (kindsIn ts) ≤ i → bit o.joints i ≡ bit l.joints i
+  pub kind-there : (i : ℕ) → i < length (kinds_in ts) → get_or o.kinds i 0 ≡ get_or (kinds_in ts) i 0
+  pub kind-stays : (i : ℕ) → length (kinds_in ts) ≤ i → get_or o.kinds i 0 ≡ get_or l.kinds i 0
+  pub joint-there : (i : ℕ) → i < length (kinds_in ts) → bit o.joints i ≡ get_or (joints_in ts) i false
+  pub joint-stays : (i : ℕ) → length (kinds_in ts) ≤ i → bit o.joints i ≡ bit l.joints i
   pub token-kind : (i : ℕ) → i < length ts → get_or o.tokens (2 * i) 0 ≡ kind (get_or ts i nothing)
   pub token-size : (i : ℕ) → i < length ts → get_or o.tokens (2 * i + 1) 0 ≡ size (get_or ts i nothing)
   pub word-stays : (i : ℕ) → 2 * length ts ≤ i → get_or o.tokens i 0 ≡ get_or l.tokens i 0
@@ -62,7 +62,7 @@ pub record Other (ts : List Token) (j : ℕ) : Type 0 where
   pub other : Trivia (kind (get_or ts j nothing)) → ⊥
 
 abbrev pub number_of : List Token → ℕ → ℕ
-number_of ts j = length (kindsIn (take j ts))
+number_of ts j = length (kinds_in (take j ts))
 
 -- one token that is no trivia has number i, and no other has
 pub record Numbered (ts : List Token) (i : ℕ) : Type 0 where

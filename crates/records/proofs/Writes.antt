@@ -8,7 +8,7 @@ use mathlib.Core.List.{List, [], ◌∷◌, ◌++◌, append_assoc, append-nil}
 use lib.ListN.{length, take, drop, length-append, length-take, length-drop, take-append-drop}
 use lib.Seq.{drop-drop, take_at, drop_at, take-take, take-append-le}
 use Rattle.records.specs.declared.Step.{Step}
-use Rattle.records.specs.Record.{recordOf, bytes, over, Wrote}
+use Rattle.records.specs.Record.{record_of, bytes, over, Wrote}
 
 pub over_none : (l : List ℕ) (i : ℕ) → over l i [] ≡ l
 over_none l i = rw (add-zero, append-nil) (take-append-drop i l)
@@ -61,6 +61,6 @@ unfolding bytes
 bytes-append [] s = refl
 bytes-append (x ∷ r) s = rw (bytes-append r s, append_assoc)
 
-pub bytes_one : (s : Step) → bytes (s ∷ []) ≡ recordOf s
+pub bytes_one : (s : Step) → bytes (s ∷ []) ≡ record_of s
 unfolding bytes
-bytes_one s = append-nil (recordOf s)
+bytes_one s = append-nil (record_of s)

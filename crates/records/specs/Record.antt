@@ -11,20 +11,20 @@ le16 n = n % 256 ∷ (n / 256 ∷ [])
 abbrev pub framed : ℕ → List ℕ → List ℕ
 framed kind payload = le16 (length payload) ++ le16 kind ++ payload
 
-abbrev pub recordOf : Step → List ℕ
-recordOf (Enter k) = framed 1 (le16 k)
-recordOf Leave = framed 2 []
-recordOf (Token k n) = framed 3 (le16 k ++ (n ∷ []))
-recordOf (Error c x) = framed 4 (le16 c ++ le16 x)
-recordOf (Expected k f) = framed 5 (le16 1 ++ le16 k ++ le16 f)
+abbrev pub record_of : Step → List ℕ
+record_of (Enter k) = framed 1 (le16 k)
+record_of Leave = framed 2 []
+record_of (Token k n) = framed 3 (le16 k ++ (n ∷ []))
+record_of (Error c x) = framed 4 (le16 c ++ le16 x)
+record_of (Expected k f) = framed 5 (le16 1 ++ le16 k ++ le16 f)
 
 -- no record has more bytes than these
-abbrev pub stepBytes : ℕ
-stepBytes = 10
+abbrev pub step_bytes : ℕ
+step_bytes = 10
 
 unfoldable pub bytes : List Step → List ℕ
 bytes [] = []
-bytes (s ∷ ss) = recordOf s ++ bytes ss
+bytes (s ∷ ss) = record_of s ++ bytes ss
 
 -- a step whose numbers are those that a record can hold: 16 bits for a kind, a code and an argument, 1 to 3 for a raw count
 abbrev pub Sound : Step → Type 0

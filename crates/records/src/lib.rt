@@ -1,7 +1,7 @@
 // Steps, and their records in a step file: payload length, record kind, payload, little-endian (docs/RULES.md, section 7). The format's one
 // home: `events` writes records with `put`, and `stepfile` reads them.
 ghost use Rattle.std.specs.Prelude.{◌≡◌, ◌+◌, ◌≤◌, [], ◌∷◌, ◌++◌, length};
-ghost use Rattle.records.specs.Record.{le16, recordOf, Wrote};
+ghost use Rattle.records.specs.Record.{le16, record_of, Wrote};
 
 // A tree step, one for each record kind. The numbers are a kind; a kind and the raw count; a code and its argument; the kinds expected and
 // found by the error with code 1.
@@ -27,7 +27,7 @@ pub const EXPECTED: u32 = 327686;
 
 // The bytes of a step's record.
 pub fn size(s: Step) -> usize
-    ensures { result ≡ length (recordOf s) }
+    ensures { result ≡ length (record_of s) }
 {
     match s {
         Step::Enter(_) => 6,
@@ -66,8 +66,8 @@ fn put_head(out: &mut [u8], at: usize, size: u16, kind: u16) -> usize
 
 // A step's record.
 pub fn put(out: &mut [u8], at: usize, s: Step) -> usize
-    requires { at + length (recordOf s) ≤ length out.old }
-    ensures { Wrote out.old at (recordOf s) result out.new }
+    requires { at + length (record_of s) ≤ length out.old }
+    ensures { Wrote out.old at (record_of s) result out.new }
 {
     match s {
         Step::Enter(kind) => {

@@ -11,14 +11,14 @@ use lib.Dec.{eqb, ltb}
 use borrow.Author.Tests.{ltb-true, eqb-true}
 use Rattle.kinds.specs.Kinds.{TOMBSTONE}
 use Rattle.input.specs.Input.{Env}
-use Rattle.input.specs.Glue.{parts_of, rawCount}
+use Rattle.input.specs.Glue.{parts_of, raw_count}
 use Rattle.event.specs.declared.Event.{Event}
 use Rattle.event.specs.declared.Event.TheVariants.{Start, Finish, Token, Error, NoEvent}
-use Rattle.event.specs.Event.{holds, isStart, is_bare, withKind, with_distance}
+use Rattle.event.specs.Event.{holds, is_start, is_bare, with_kind, with_distance}
 use Rattle.runtime.specs.declared.parser.Parser.{Parser}
-use Rattle.runtime.specs.State.{St, mostLooks, live, refusal, holding, looked, halted, stopNumber, numbers, refuse, rewritten, popped, eventAt, pushEvent, enough, consume, consumed, doBump, named, linked, dropped, gap}
+use Rattle.runtime.specs.State.{St, most_looks, live, refusal, holding, looked, halted, stop_number, numbers, refuse, rewritten, popped, event_at, push_event, enough, consume, consumed, do_bump, named, linked, dropped, gap}
 use Rattle.runtime.specs.Cover.{events}
-use Rattle.runtime.specs.Acts.{Act, Act.looks, Act.peeks, Act.eats, Act.takes, Act.starts, Act.completes, Act.abandons, Act.precedes, Act.extends, Act.fails, Act.lacks, Act.stops, Act.asks, Answer, kindAhead, nthSees, sees, stopped, step, Acts, Acts.done, Acts.act, run}
+use Rattle.runtime.specs.Acts.{Act, Act.looks, Act.peeks, Act.eats, Act.takes, Act.starts, Act.completes, Act.abandons, Act.precedes, Act.extends, Act.fails, Act.lacks, Act.stops, Act.asks, Answer, kind_ahead, nth_sees, sees, stopped, step, Acts, Acts.done, Acts.act, run}
 use Rattle.laws.proofs.Tests.{by-test, apart}
 use Rattle.runtime.proofs.Kept.{found}
 use Rattle.runs.proofs.Covered.{events-added, events-popped}
@@ -45,7 +45,7 @@ halted-length n p = by-test (λ (q : Parser). q.len ≡ p.len) (live p) _ p (λ 
 
 looked-length : (p : Parser) → (looked p).len ≡ p.len
 unfolding looked
-looked-length p = by-test (λ (q : Parser). q.len ≡ p.len) (live p) _ p (λ q. by-test (λ (r : Parser). r.len ≡ p.len) (ltb p.since mostLooks) _ _ (λ l. refl) (λ l. refl)) (λ q. refl)
+looked-length p = by-test (λ (q : Parser). q.len ≡ p.len) (live p) _ p (λ q. by-test (λ (r : Parser). r.len ≡ p.len) (ltb p.since most_looks) _ _ (λ l. refl) (λ l. refl)) (λ q. refl)
 
 module _ (s t : St) (h : Alike s t) where
   length-same : s.p.len ≡ t.p.len
@@ -60,8 +60,8 @@ module _ (s t : St) (h : Alike s t) where
   halt-alike : (n : ℕ) → Alike (numbers (halted n s.p) s) (numbers (halted n t.p) t)
   halt-alike n = renumbered (halted n) s t (halted-length n) h
 
-  event-same : (i : ℕ) → eventAt s i ≡ eventAt t i
-  unfolding eventAt
+  event-same : (i : ℕ) → event_at s i ≡ event_at t i
+  unfolding event_at
   event-same i = rw (← length-same) (by (ltb i s.p.len) refl)
     where
       by : (b : Bool) → ltb i s.p.len ≡ b → cond b (get_or s.room i (NoEvent 0 0)) (NoEvent 0 0) ≡ cond b (get_or t.room i (NoEvent 0 0)) (NoEvent 0 0)
@@ -70,8 +70,8 @@ module _ (s t : St) (h : Alike s t) where
           sym (get_or-take s.p.len s.room i (NoEvent 0 0) l) ∙ ap (λ (es : List Event). get_or es i (NoEvent 0 0)) h.so_far ∙ get_or-take t.p.len t.room i (NoEvent 0 0) (omega (arith, length-same))
       by false q = refl
 
-  push-alike : (v : Event) → Alike (pushEvent v s) (pushEvent v t)
-  unfolding pushEvent
+  push-alike : (v : Event) → Alike (push_event v s) (push_event v t)
+  unfolding push_event
   push-alike v =
       choose (live s.p) (live t.p) live_same
       (λ q. choose (ltb s.p.len (holds (length s.room))) (ltb t.p.len (holds (length t.room))) (ap₂ (λ (x y : ℕ). ltb x (holds y)) length-same h.size)
@@ -96,10 +96,10 @@ module _ (s t : St) (h : Alike s t) where
       }
 
   changed-alike : (m : ℕ) (f : Event → Event)
-      → Alike (cond (live s.p) (cond (isStart (eventAt s m)) (rewritten m (f (eventAt s m)) s) (refuse 8 s)) s) (cond (live t.p) (cond (isStart (eventAt t m)) (rewritten m (f (eventAt t m)) t) (refuse 8 t)) t)
+      → Alike (cond (live s.p) (cond (is_start (event_at s m)) (rewritten m (f (event_at s m)) s) (refuse 8 s)) s) (cond (live t.p) (cond (is_start (event_at t m)) (rewritten m (f (event_at t m)) t) (refuse 8 t)) t)
   changed-alike m f =
       choose (live s.p) (live t.p) live_same
-      (λ q. choose (isStart (eventAt s m)) (isStart (eventAt t m)) (ap isStart (event-same m)) (λ l. rewritten-alike m (f (eventAt s m)) (f (eventAt t m)) (found isStart s m refl l).0 (ap f (event-same m))) (λ l. refuse-alike 8))
+      (λ q. choose (is_start (event_at s m)) (is_start (event_at t m)) (ap is_start (event-same m)) (λ l. rewritten-alike m (f (event_at s m)) (f (event_at t m)) (found is_start s m refl l).0 (ap f (event-same m))) (λ l. refuse-alike 8))
       (λ q. h)
 
   dropped-alike : (m : ℕ) → Alike (dropped m s) (dropped m t)
@@ -107,7 +107,7 @@ module _ (s t : St) (h : Alike s t) where
   dropped-alike m =
       choose (live s.p) (live t.p) live_same
       (λ q. choose (eqb (m + 1) s.p.len) (eqb (m + 1) t.p.len) (ap (eqb (m + 1)) length-same)
-      (λ l. choose (is_bare (eventAt s m)) (is_bare (eventAt t m)) (ap is_bare (event-same m)) (λ b. less (eqb-true _ _ l)) (λ b. refuse-alike 8))
+      (λ l. choose (is_bare (event_at s m)) (is_bare (event_at t m)) (ap is_bare (event-same m)) (λ b. less (eqb-true _ _ l)) (λ b. refuse-alike 8))
       (λ l. h))
       (λ q. h)
     where
@@ -121,18 +121,18 @@ module _ (s t : St) (h : Alike s t) where
 
 named-alike : (m k : ℕ) (s t : St) → Alike s t → Alike (named m k s) (named m k t)
 unfolding named
-named-alike m k s t h = changed-alike s t h m (withKind k)
+named-alike m k s t h = changed-alike s t h m (with_kind k)
 
 linked-alike : (m c d : ℕ) (s t : St) → c ≡ d → Alike s t → Alike (linked m c s) (linked m d t)
 unfolding linked
 linked-alike m c d s t q h = rw (← q) (changed-alike s t h m (with_distance c))
 
-bump-alike : (e : Env) (j k n : ℕ) (s t : St) → j ≡ k → Alike s t → Alike (doBump e j n s) (doBump e k n t)
-unfolding doBump
+bump-alike : (e : Env) (j k n : ℕ) (s t : St) → j ≡ k → Alike s t → Alike (do_bump e j n s) (do_bump e k n t)
+unfolding do_bump
 bump-alike e j k n s t q h =
     rw (← q)
     (choose (enough e s.p n) (enough e t.p n) (ap (λ (p : Parser). enough e p n) h.same)
-    (λ l. consume-alike (pushEvent (Token j n) s) (pushEvent (Token j n) t) (push-alike s t h (Token j n)) n)
+    (λ l. consume-alike (push_event (Token j n) s) (push_event (Token j n) t) (push-alike s t h (Token j n)) n)
     (λ l. halt-alike s t h 8))
 
 -- what an act tells, and what it leaves
@@ -141,16 +141,16 @@ Both o x y = (x.0 ≡ y.0) × Alike x.1 y.1
 
 pub alike-step : (e : Env) (o : Act) (s t : St) → Alike s t → Both o (step e o s) (step e o t)
 unfolding step
-alike-step e (looks n) s t h = (ap (λ (p : Parser). kindAhead e (looked p) n) h.same, renumbered looked s t looked-length h)
-alike-step e (peeks n k) s t h = (ap (λ (p : Parser). nthSees e p n k) h.same, h)
+alike-step e (looks n) s t h = (ap (λ (p : Parser). kind_ahead e (looked p) n) h.same, renumbered looked s t looked-length h)
+alike-step e (peeks n k) s t h = (ap (λ (p : Parser). nth_sees e p n k) h.same, h)
 alike-step e (eats k) s t h = by (sees e s.p k) (sees e t.p k) (ap (λ (p : Parser). sees e p k) h.same)
   where
-    by : (a b : Bool) → a ≡ b → Both (eats k) (cond a (true, doBump e k (rawCount (parts_of k)) s) (false, s)) (cond b (true, doBump e k (rawCount (parts_of k)) t) (false, t))
-    by true true q = (refl, bump-alike e k k (rawCount (parts_of k)) s t refl h)
+    by : (a b : Bool) → a ≡ b → Both (eats k) (cond a (true, do_bump e k (raw_count (parts_of k)) s) (false, s)) (cond b (true, do_bump e k (raw_count (parts_of k)) t) (false, t))
+    by true true q = (refl, bump-alike e k k (raw_count (parts_of k)) s t refl h)
     by true false q = apart (sym q)
     by false true q = apart q
     by false false q = (refl, h)
-alike-step e takes s t h = (refl, bump-alike e (kindAhead e s.p 0) (kindAhead e t.p 0) 1 s t (ap (λ (p : Parser). kindAhead e p 0) h.same) h)
+alike-step e takes s t h = (refl, bump-alike e (kind_ahead e s.p 0) (kind_ahead e t.p 0) 1 s t (ap (λ (p : Parser). kind_ahead e p 0) h.same) h)
 alike-step e starts s t h = (length-same s t h, push-alike s t h (Start TOMBSTONE 0))
 alike-step e (completes m k) s t h = (refl, push-alike (named m k s) (named m k t) (named-alike m k s t h) Finish)
 alike-step e (abandons m) s t h = (refl, dropped-alike s t h m)
@@ -159,9 +159,9 @@ alike-step e (extends to m) s t h = (refl, linked-alike m (gap m to) (gap m to) 
 alike-step e (fails c a) s t h = (refl, push-alike s t h (Error c a 0))
 alike-step e (lacks k) s t h = (
   refl,
-  subst (λ (p : Parser). Alike (pushEvent (Error 1 k (kindAhead e s.p 0)) s) (pushEvent (Error 1 k (kindAhead e p 0)) t)) h.same (push-alike s t h (Error 1 k (kindAhead e s.p 0))),
+  subst (λ (p : Parser). Alike (push_event (Error 1 k (kind_ahead e s.p 0)) s) (push_event (Error 1 k (kind_ahead e p 0)) t)) h.same (push-alike s t h (Error 1 k (kind_ahead e s.p 0))),
 )
-alike-step e (stops w) s t h = (refl, halt-alike s t h (stopNumber w))
+alike-step e (stops w) s t h = (refl, halt-alike s t h (stop_number w))
 alike-step e asks s t h = (ap stopped h.same, h)
 
 pub alike-run : {A : Type 0} (e : Env) (m : Acts A) (s t : St) → Alike s t → ((run e m s).0 ≡ (run e m t).0) × Alike (run e m s).1 (run e m t).1

@@ -11,7 +11,7 @@ use borrow.Author.Tests.{ne_eqb}
 use Rattle.input.specs.Input.{Env, seen}
 use Rattle.event.specs.declared.Event.{Event}
 use Rattle.event.specs.declared.Event.TheVariants.{Start, Finish, Token, Error, NoEvent}
-use Rattle.event.specs.Event.{isStart}
+use Rattle.event.specs.Event.{is_start}
 use Rattle.event.proofs.Encoding.{bare-start}
 use Rattle.laws.proofs.Tests.{apart}
 use Rattle.runtime.specs.State.{St}
@@ -20,7 +20,7 @@ use Rattle.runtime.proofs.Kept.{Writes, Writes.opens, Writes.ends, Writes.says, 
 use Rattle.runtime.proofs.Runs.{Held, helds}
 
 -- a start says nothing, and the next event is about the same place
-quiet : (e : Env) (i : ℕ) (v : Event) → isStart v ≡ true → Says e i v × (after v i ≡ i)
+quiet : (e : Env) (i : ℕ) (v : Event) → is_start v ≡ true → Says e i v × (after v i ≡ i)
 quiet e i (Start k d) h = (tt, refl)
 quiet e i Finish h = apart h
 quiet e i (Token k n) h = apart h
@@ -45,14 +45,14 @@ cover-add e i j [] v h s = (subst (λ (x : ℕ). Says e x v) (sym h) s, ap (afte
 cover-add e i j (w ∷ l) v h s = (h.0, cover-add e (after w i) j l v h.1 s)
 
 -- another in the place of a start
-cover-set : (e : Env) (i j : ℕ) (l : List Event) (n : ℕ) (v : Event) → isStart (get_or l n (NoEvent 0 0)) ≡ true → isStart v ≡ true → Covers e i l j → Covers e i (set l n v) j
+cover-set : (e : Env) (i j : ℕ) (l : List Event) (n : ℕ) (v : Event) → is_start (get_or l n (NoEvent 0 0)) ≡ true → is_start v ≡ true → Covers e i l j → Covers e i (set l n v) j
 cover-set e i j [] n v a b h = h
 cover-set e i j (w ∷ l) zero v a b h =
     ((quiet e i v b).0, subst (λ (x : ℕ). Covers e x l j) ((quiet e i w a).1 ∙ sym (quiet e i v b).1) h.1)
 cover-set e i j (w ∷ l) (suc n) v a b h = (h.0, cover-set e (after w i) j l n v a b h.1)
 
 -- one event less
-cover-take : (e : Env) (i j : ℕ) (l : List Event) (n : ℕ) → suc n ≡ length l → isStart (get_or l n (NoEvent 0 0)) ≡ true → Covers e i l j → Covers e i (take n l) j
+cover-take : (e : Env) (i j : ℕ) (l : List Event) (n : ℕ) → suc n ≡ length l → is_start (get_or l n (NoEvent 0 0)) ≡ true → Covers e i l j → Covers e i (take n l) j
 cover-take e i j [] n q a h = absurd (omega arith)
 cover-take e i j (w ∷ []) zero q a h = sym (quiet e i w a).1 ∙ h.1
 cover-take e i j (w ∷ u ∷ l) zero q a h = absurd (omega arith)
@@ -77,8 +77,8 @@ covers e =
       looking = λ s z l h. record { held = h.held; tokens = h.tokens };
       pushing = λ v s t z l h. let w : Says e s.p.pos v × (after v s.p.pos ≡ s.p.pos) = written e s z t in record { held = held.pushing v s t z l h.held; tokens = subst (λ (x : ℕ). Covers e 0 (take (s.p.len + 1) (set s.room s.p.len v)) x) w.1 (more s v (omega arith) h.tokens w.0) };
       moving = λ k n s t q z l h. record { held = held.moving k n s t q z l h.held; tokens = more s (Token k n) (omega arith) h.tokens t };
-      changing = λ i v s l t u z h. record { held = held.changing i v s l t u z h.held; tokens = rw (take-set-lt s.p.len s.room i v l) (cover-set e 0 s.p.pos (events s) i v (ap isStart (get_or-take s.p.len s.room i (NoEvent 0 0) l) ∙ t) u h.tokens) };
-      popping = λ s m l t z h. record { held = held.popping s m l t z h.held; tokens = rw (events-popped s.room s.p.len m (NoEvent 0 0) l) (cover-take e 0 s.p.pos (events s) m (rw (length-take-le s.p.len s.room h.held) (omega arith)) (ap isStart (get_or-take s.p.len s.room m (NoEvent 0 0) (omega arith)) ∙ bare-start (get_or s.room m (NoEvent 0 0)) t) h.tokens) };
+      changing = λ i v s l t u z h. record { held = held.changing i v s l t u z h.held; tokens = rw (take-set-lt s.p.len s.room i v l) (cover-set e 0 s.p.pos (events s) i v (ap is_start (get_or-take s.p.len s.room i (NoEvent 0 0) l) ∙ t) u h.tokens) };
+      popping = λ s m l t z h. record { held = held.popping s m l t z h.held; tokens = rw (events-popped s.room s.p.len m (NoEvent 0 0) l) (cover-take e 0 s.p.pos (events s) m (rw (length-take-le s.p.len s.room h.held) (omega arith)) (ap is_start (get_or-take s.p.len s.room m (NoEvent 0 0) (omega arith)) ∙ bare-start (get_or s.room m (NoEvent 0 0)) t) h.tokens) };
     }
   where
     held : KeptBy e Other Held

@@ -13,15 +13,15 @@ use Rattle.kinds.specs.Membership.{both}
 use Rattle.laws.proofs.Tests.{by-test}
 use Rattle.input.specs.declared.Parts.{Parts}
 use Rattle.input.specs.declared.Parts.TheVariants.{One, Two, Three}
-use Rattle.input.specs.Input.{env, seen, isJoint}
-use Rattle.input.specs.Glue.{gluedKinds, parts_in, parts_of, rawCount, standsAt}
+use Rattle.input.specs.Input.{env, seen, is_joint}
+use Rattle.input.specs.Glue.{glued_kinds, parts_in, parts_of, raw_count, stands_at}
 use Rattle.input.proofs.Reading.{both_true}
-use Rattle.runtime.specs.State.{St, doBump}
+use Rattle.runtime.specs.State.{St, do_bump}
 use Rattle.runtime.specs.Acts.{Act, Act.looks, Act.peeks, Act.eats, Act.takes, Act.starts, Act.completes, Act.abandons, Act.precedes, Act.extends, Act.fails, Act.lacks, Act.stops, Act.asks, Answer, step, Acts, Acts.done, Acts.act, run}
 
 -- the joint words agree on each token that another follows
 abbrev pub Agree : List ℕ → List ℕ → List ℕ → Type 0
-Agree kinds a b = (i : ℕ) → suc i < length kinds → isJoint a i ≡ isJoint b i
+Agree kinds a b = (i : ℕ) → suc i < length kinds → is_joint a i ≡ is_joint b i
 
 -- no part of a glued kind behind its first is the end's kind: one test that antt computes
 sealed : Parts → Bool
@@ -42,7 +42,7 @@ sealed-in k (g ∷ gs) t =
 
 sealed-parts : (k : ℕ) → sealed (parts_of k) ≡ true
 unfolding parts_of all-sealed sealed
-sealed-parts k = sealed-in k gluedKinds refl
+sealed-parts k = sealed-in k glued_kinds refl
 
 -- a kind that is not the end's stands at a token
 inside : (ks : List ℕ) (r i k : ℕ) → not (eqb k EOF) ≡ true → eqb (seen ks r i) k ≡ true → i < length ks
@@ -61,8 +61,8 @@ both-same true a b f = f refl
 both-same false a b f = refl
 
 module _ (kinds a b : List ℕ) (agree : Agree kinds a b) where
-  stands_same : (r i : ℕ) (g : Parts) → sealed g ≡ true → standsAt (env kinds a) r i g ≡ standsAt (env kinds b) r i g
-  unfolding standsAt sealed
+  stands_same : (r i : ℕ) (g : Parts) → sealed g ≡ true → stands_at (env kinds a) r i g ≡ stands_at (env kinds b) r i g
+  unfolding stands_at sealed
   stands_same r i (One j) t = refl
   stands_same r i (Two j k) t = ap (both (eqb (seen kinds r i) j)) (both-same (eqb (seen kinds r (i + 1)) k) _ _ (λ q. agree i (omega (arith, inside kinds r (i + 1) k t q))))
   stands_same r i (Three j k l) t =
@@ -73,10 +73,10 @@ module _ (kinds a b : List ℕ) (agree : Agree kinds a b) where
       (λ z. let h : i + 2 < length kinds = inside kinds r (i + 2) l u.1 z in ap₂ both (agree i (omega arith)) (agree (i + 1) (omega arith)))))
 
   pub joints-step : (o : Act) (s : St) → step (env kinds a) o s ≡ step (env kinds b) o s
-  unfolding step doBump
+  unfolding step do_bump
   joints-step (looks n) s = refl
   joints-step (peeks n k) s = ap (λ (x : Bool). (x, s)) (stands_same s.p.refused (s.p.pos + n) (parts_of k) (sealed-parts k))
-  joints-step (eats k) s = ap (λ (x : Bool). cond x (true, doBump (env kinds b) k (rawCount (parts_of k)) s) (false, s)) (stands_same s.p.refused (s.p.pos + 0) (parts_of k) (sealed-parts k))
+  joints-step (eats k) s = ap (λ (x : Bool). cond x (true, do_bump (env kinds b) k (raw_count (parts_of k)) s) (false, s)) (stands_same s.p.refused (s.p.pos + 0) (parts_of k) (sealed-parts k))
   joints-step takes s = refl
   joints-step starts s = refl
   joints-step (completes m k) s = refl

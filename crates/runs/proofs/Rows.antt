@@ -11,13 +11,13 @@ use Rattle.runtime.specs.declared.parser.Parser.{Parser}
 use Rattle.runtime.specs.declared.parser.Completed.{Completed}
 use Rattle.runtime.specs.declared.parser.Stop.TheVariants.{Deep, Panic}
 use Rattle.input.specs.Input.{Env, env, seen}
-use Rattle.input.specs.Glue.{parts_of, standsAt}
+use Rattle.input.specs.Glue.{parts_of, stands_at}
 use Rattle.event.specs.declared.Event.{Event}
 use Rattle.event.specs.declared.Event.TheVariants.{Start, Finish, Token, Error}
-use Rattle.event.specs.Event.{errorOf, encode, decode, eventsOf, leftOver, words_of}
-use Rattle.runtime.specs.State.{St, view, new, looked, halted, eventAt, pushEvent, consume, doBump, named, linked, dropped}
+use Rattle.event.specs.Event.{error_of, encode, decode, events_of, left_over, words_of}
+use Rattle.runtime.specs.State.{St, view, new, looked, halted, event_at, push_event, consume, do_bump, named, linked, dropped}
 use Rattle.runtime.specs.Cover.{events}
-use Rattle.runtime.specs.Acts.{Acts, step, run, ◌>>=◌, ◌>>◌, atTs, bump, bumpAny, expect, errRecover, errAndBump, must, goesOn}
+use Rattle.runtime.specs.Acts.{Acts, step, run, ◌>>=◌, ◌>>◌, at_ts, bump, bump_any, expect, err_recover, err_and_bump, must, goes_on}
 use Rattle.runtime.specs.Acts as acts
 
 -- tokens consumed, the events, lookups in all, and the refusal
@@ -56,7 +56,7 @@ leftwards = do
   a ← acts.start
   b ← acts.start
   c ← acts.complete b NAME
-  acts.extendTo c a
+  acts.extend_to c a
   acts.done tt
 
 -- an outer start that is abandoned
@@ -69,12 +69,12 @@ outer = do
 abbrev rows : List Row
 rows =
     -- an error at the end of the input: a node without a token, three lookups
-    record { acts = errRecover 2 EMPTY; kinds = []; joints = 0; room = 6; told = record { pos = 0; events = Start ERROR 0 ∷ Error 2 0 0 ∷ Finish ∷ []; looks = 3; refused = 0 } }
+    record { acts = err_recover 2 EMPTY; kinds = []; joints = 0; room = 6; told = record { pos = 0; events = Start ERROR 0 ∷ Error 2 0 0 ∷ Finish ∷ []; looks = 3; refused = 0 } }
     -- the same in a room of two events: nothing is closed
-    ∷ record { acts = errRecover 2 EMPTY; kinds = []; joints = 0; room = 5; told = record { pos = 0; events = Start ERROR 0 ∷ Error 2 0 0 ∷ []; looks = 3; refused = 5 } }
+    ∷ record { acts = err_recover 2 EMPTY; kinds = []; joints = 0; room = 5; told = record { pos = 0; events = Start ERROR 0 ∷ Error 2 0 0 ∷ []; looks = 3; refused = 5 } }
     -- at `{` and at a kind of the set, the error alone
-    ∷ record { acts = errRecover 2 EMPTY; kinds = L-CURLY ∷ []; joints = 0; room = 6; told = record { pos = 0; events = Error 2 0 0 ∷ []; looks = 1; refused = 0 } }
-    ∷ record { acts = errRecover 2 ITEM-RECOVERY-SET; kinds = SEMICOLON ∷ []; joints = 0; room = 6; told = record { pos = 0; events = Error 2 0 0 ∷ []; looks = 2; refused = 0 } }
+    ∷ record { acts = err_recover 2 EMPTY; kinds = L-CURLY ∷ []; joints = 0; room = 6; told = record { pos = 0; events = Error 2 0 0 ∷ []; looks = 1; refused = 0 } }
+    ∷ record { acts = err_recover 2 ITEM-RECOVERY-SET; kinds = SEMICOLON ∷ []; joints = 0; room = 6; told = record { pos = 0; events = Error 2 0 0 ∷ []; looks = 2; refused = 0 } }
     -- `>>` is consumed where the two are joint, and not where they are not; `>>=` needs both joints
     ∷ record { acts = bump SHR; kinds = R-ANGLE ∷ R-ANGLE ∷ []; joints = 1; room = 2; told = record { pos = 2; events = Token SHR 2 ∷ []; looks = 0; refused = 0 } }
     ∷ record { acts = bump SHR; kinds = R-ANGLE ∷ R-ANGLE ∷ []; joints = 0; room = 2; told = record { pos = 0; events = []; looks = 0; refused = 8 } }
@@ -83,7 +83,7 @@ rows =
     -- one kind ignores joint bits
     ∷ record { acts = bump R-ANGLE; kinds = R-ANGLE ∷ R-ANGLE ∷ []; joints = 1; room = 2; told = record { pos = 1; events = Token R-ANGLE 1 ∷ []; looks = 0; refused = 0 } }
     -- a token whose event finds no room is not consumed
-    ∷ record { acts = bumpAny; kinds = IDENT ∷ []; joints = 0; room = 1; told = record { pos = 0; events = []; looks = 1; refused = 5 } }
+    ∷ record { acts = bump_any; kinds = IDENT ∷ []; joints = 0; room = 1; told = record { pos = 0; events = []; looks = 1; refused = 5 } }
     -- a kind that is due and does not come: what stands there is recorded, the end too, and of a joint `==` its first token
     ∷ record { acts = expect SEMICOLON >> acts.done tt; kinds = IDENT ∷ []; joints = 0; room = 2; told = record { pos = 0; events = Error 1 SEMICOLON IDENT ∷ []; looks = 0; refused = 0 } }
     ∷ record { acts = expect SEMICOLON >> acts.done tt; kinds = []; joints = 0; room = 2; told = record { pos = 0; events = Error 1 SEMICOLON EOF ∷ []; looks = 0; refused = 0 } }
@@ -101,7 +101,7 @@ rows =
     ∷ []
 
 pub all_hold : map ends rows ≡ map (λ (r : Row). r.told) rows
-unfolding run step ◌>>=◌ errRecover bump bumpAny expect atTs bit one_of seen standsAt parts_of errorOf decode eventsOf leftOver looked halted eventAt pushEvent consume doBump named linked dropped
+unfolding run step ◌>>=◌ err_recover bump bump_any expect at_ts bit one_of seen stands_at parts_of error_of decode events_of left_over looked halted event_at push_event consume do_bump named linked dropped
 all_hold = refl
 
 -- An edge: the acts, the tokens, and the state and the room's words before; then what the acts have answered, one after the other (1 for
@@ -138,18 +138,18 @@ abbrev flag : Bool → ℕ
 flag b = cond b 1 0
 
 -- no token: every kind is EOF, no glued kind stands there, and EOF is not consumed
-abbrev noToken : Acts (List ℕ)
-noToken = do
+abbrev no_token : Acts (List ℕ)
+no_token = do
   a ← acts.nth 0
   b ← acts.nth 3
   c ← acts.at EOF
   d ← acts.at SHR
-  g ← goesOn SEMICOLON
-  t ← atTs ITEM-RECOVERY-SET
-  bumpAny
+  g ← goes_on SEMICOLON
+  t ← at_ts ITEM-RECOVERY-SET
+  bump_any
   f ← acts.eat SEMICOLON
   h ← expect SEMICOLON
-  errAndBump 2
+  err_and_bump 2
   must EOF
   bump EOF
   k ← acts.current
@@ -157,17 +157,17 @@ noToken = do
   acts.done (a ∷ b ∷ flag c ∷ flag d ∷ flag g ∷ flag t ∷ flag f ∷ flag h ∷ k ∷ m ∷ [])
 
 -- the last token, and past it
-abbrev lastToken : Acts (List ℕ)
-lastToken = do
+abbrev last_token : Acts (List ℕ)
+last_token = do
   a ← acts.nth 1
   b ← acts.nth 2
   bump IDENT
-  g ← goesOn R-CURLY
-  t ← atTs ITEM-RECOVERY-SET
+  g ← goes_on R-CURLY
+  t ← at_ts ITEM-RECOVERY-SET
   f ← acts.eat COMMA
   h ← expect SEMICOLON
   d ← acts.at EOF
-  bumpAny
+  bump_any
   k ← acts.current
   must SEMICOLON
   acts.done (a ∷ b ∷ flag g ∷ flag t ∷ flag f ∷ flag h ∷ flag d ∷ k ∷ [])
@@ -176,7 +176,7 @@ lastToken = do
 abbrev node : Acts (List ℕ)
 node = do
   m ← acts.start
-  bumpAny
+  bump_any
   acts.complete m NAME
   f ← acts.eat IDENT
   acts.error 2 0
@@ -194,12 +194,12 @@ freed = do
 -- glued kinds over the border of two words of joint bits: what is seen from token 62 on, and consumed there
 abbrev border : Acts (List ℕ)
 border = do
-  a ← acts.nthAt 0 SHR
-  b ← acts.nthAt 1 SHR
-  c ← acts.nthAt 2 SHR
-  d ← acts.nthAt 3 GTEQ
-  g ← acts.nthAt 2 SHREQ
-  h ← acts.nthAt 2 R-ANGLE
+  a ← acts.nth_at 0 SHR
+  b ← acts.nth_at 1 SHR
+  c ← acts.nth_at 2 SHR
+  d ← acts.nth_at 3 GTEQ
+  g ← acts.nth_at 2 SHREQ
+  h ← acts.nth_at 2 R-ANGLE
   k ← acts.eat SHR
   m ← acts.eat SHREQ
   acts.done (flag a ∷ flag b ∷ flag c ∷ flag d ∷ flag g ∷ flag h ∷ flag k ∷ flag m ∷ [])
@@ -218,9 +218,9 @@ glue = do
   b ← acts.at DOT2
   c ← acts.at DOT3
   d ← acts.at DOT2EQ
-  g ← acts.nthAt 1 DOT2EQ
-  h ← acts.nthAt 3 EQ
-  k ← acts.nthAt 3 EQ2
+  g ← acts.nth_at 1 DOT2EQ
+  h ← acts.nth_at 3 EQ
+  k ← acts.nth_at 3 EQ2
   bump DOT3
   m ← acts.at EQ
   bump EQ2
@@ -228,29 +228,29 @@ glue = do
   acts.done (flag a ∷ flag b ∷ flag c ∷ flag d ∷ flag g ∷ flag h ∷ flag k ∷ flag m ∷ [])
 
 -- the 10,000th lookup since a token, and what a token does to the count
-abbrev lastLook : Acts (List ℕ)
-lastLook = do
+abbrev last_look : Acts (List ℕ)
+last_look = do
   a ← acts.at IDENT
-  bumpAny
+  bump_any
   acts.done (flag a ∷ [])
 
 -- the 10,001st
-abbrev oneLook : Acts (List ℕ)
-oneLook = do
+abbrev one_look : Acts (List ℕ)
+one_look = do
   f ← acts.eat COMMA
   k ← acts.current
   a ← acts.at EOF
   b ← acts.at IDENT
-  bumpAny
+  bump_any
   acts.done (flag f ∷ k ∷ flag a ∷ flag b ∷ [])
 
 -- recovery: elsewhere, at a kind of the set, and at a brace
 abbrev recovery : Acts (List ℕ)
 recovery = do
-  errRecover 3 ITEM-RECOVERY-SET
-  errRecover 3 ITEM-RECOVERY-SET
-  bumpAny
-  errAndBump 4
+  err_recover 3 ITEM-RECOVERY-SET
+  err_recover 3 ITEM-RECOVERY-SET
+  bump_any
+  err_and_bump 4
   acts.done []
 
 -- markers: what is named, linked, left and taken away; a distance backwards wraps
@@ -262,16 +262,16 @@ markers = do
   acts.abandon a
   acts.abandon c
   d ← acts.complete b NAME
-  acts.extendTo d a
+  acts.extend_to d a
   m ← acts.precede d
   acts.complete m BIN-EXPR
-  acts.extendTo d m
+  acts.extend_to d m
   acts.abandon 9
   acts.done (a ∷ b ∷ c ∷ m ∷ [])
 
 -- and then a position that holds no start
-abbrev markersThen : Acts (List ℕ)
-markersThen = do
+abbrev markers_then : Acts (List ℕ)
+markers_then = do
   xs ← markers
   acts.complete 2 NAME
   acts.done xs
@@ -286,17 +286,17 @@ early = do
   m ← acts.precede (made 1)
   acts.done (m ∷ [])
 
-abbrev toError : Acts (List ℕ)
-toError = do
+abbrev to_error : Acts (List ℕ)
+to_error = do
   acts.error 2 0
-  acts.extendTo (made 0) 0
+  acts.extend_to (made 0) 0
   acts.done []
 
-abbrev linkedLast : Acts (List ℕ)
-linkedLast = do
+abbrev linked_last : Acts (List ℕ)
+linked_last = do
   a ← acts.start
   b ← acts.start
-  acts.extendTo (made 2) b
+  acts.extend_to (made 2) b
   acts.abandon b
   acts.done (a ∷ b ∷ [])
 
@@ -311,20 +311,20 @@ stays = do
   d ← acts.at EOF
   f ← acts.eat IDENT
   g ← expect IDENT
-  bumpAny
+  bump_any
   acts.error 2 0
-  errAndBump 2
+  err_and_bump 2
   h ← acts.start
   acts.complete 0 NAME
   acts.abandon 0
   k ← acts.precede (made 0)
-  acts.extendTo (made 1) 0
+  acts.extend_to (made 1) 0
   acts.done (a ∷ b ∷ flag c ∷ flag d ∷ flag f ∷ flag g ∷ h ∷ k ∷ [])
 
 abbrev edges : List Edge
 edges =
-    record { acts = noToken; tokens = env [] []; before = new; room = replicate 13 7; answers = 1 ∷ 1 ∷ 1 ∷ 0 ∷ 0 ∷ 0 ∷ 0 ∷ 0 ∷ 1 ∷ 4 ∷ []; after = numbers 0 7 7 4 8; left = 262145 ∷ 65539 ∷ 65650 ∷ 0 ∷ 262146 ∷ 0 ∷ 131072 ∷ 0 ∷ replicate 5 7 }
-    ∷ record { acts = lastToken; tokens = env (IDENT ∷ SEMICOLON ∷ []) (0 ∷ []); before = new; room = replicate 8 0; answers = 3 ∷ 1 ∷ 1 ∷ 1 ∷ 0 ∷ 1 ∷ 1 ∷ 1 ∷ []; after = numbers 2 2 5 2 8; left = 196723 ∷ 1 ∷ 196611 ∷ 1 ∷ replicate 4 0 }
+    record { acts = no_token; tokens = env [] []; before = new; room = replicate 13 7; answers = 1 ∷ 1 ∷ 1 ∷ 0 ∷ 0 ∷ 0 ∷ 0 ∷ 0 ∷ 1 ∷ 4 ∷ []; after = numbers 0 7 7 4 8; left = 262145 ∷ 65539 ∷ 65650 ∷ 0 ∷ 262146 ∷ 0 ∷ 131072 ∷ 0 ∷ replicate 5 7 }
+    ∷ record { acts = last_token; tokens = env (IDENT ∷ SEMICOLON ∷ []) (0 ∷ []); before = new; room = replicate 8 0; answers = 3 ∷ 1 ∷ 1 ∷ 1 ∷ 0 ∷ 1 ∷ 1 ∷ 1 ∷ []; after = numbers 2 2 5 2 8; left = 196723 ∷ 1 ∷ 196611 ∷ 1 ∷ replicate 4 0 }
     -- rooms of no word, of one, of one event, of two and a word left over, of three, of four
     ∷ record { acts = node; tokens = env (IDENT ∷ IDENT ∷ []) (0 ∷ []); before = new; room = []; answers = 0 ∷ 0 ∷ []; after = numbers 0 0 0 0 5; left = [] }
     ∷ record { acts = node; tokens = env (IDENT ∷ IDENT ∷ []) (0 ∷ []); before = new; room = 9 ∷ []; answers = 0 ∷ 0 ∷ []; after = numbers 0 0 0 0 5; left = 9 ∷ [] }
@@ -342,17 +342,17 @@ edges =
     ∷ record { acts = border; tokens = env angles (4611686018427387904 ∷ 3 ∷ []); before = at62; room = replicate 4 0; answers = 1 ∷ 0 ∷ 1 ∷ 1 ∷ 1 ∷ 1 ∷ 1 ∷ 1 ∷ []; after = numbers 67 0 62 2 0; left = 196660 ∷ 2 ∷ 196662 ∷ 3 ∷ [] }
     ∷ record { acts = border; tokens = env angles (18446744073709551615 ∷ []); before = at62; room = replicate 4 0; answers = 1 ∷ 1 ∷ 0 ∷ 0 ∷ 0 ∷ 1 ∷ 1 ∷ 0 ∷ []; after = numbers 64 0 62 1 0; left = 196660 ∷ 2 ∷ 0 ∷ 0 ∷ [] }
     ∷ record { acts = glue; tokens = env (DOT ∷ DOT ∷ DOT ∷ EQ ∷ EQ ∷ []) (15 ∷ []); before = new; room = replicate 8 0; answers = 1 ∷ 1 ∷ 1 ∷ 0 ∷ 1 ∷ 1 ∷ 1 ∷ 1 ∷ []; after = numbers 5 0 0 2 8; left = 196636 ∷ 3 ∷ 196641 ∷ 2 ∷ replicate 4 0 }
-    ∷ record { acts = lastLook; tokens = env (IDENT ∷ IDENT ∷ []) (0 ∷ []); before = numbers 0 9999 9999 0 0; room = replicate 4 0; answers = 1 ∷ []; after = numbers 1 0 10000 1 0; left = 196723 ∷ 1 ∷ 0 ∷ 0 ∷ [] }
-    ∷ record { acts = oneLook; tokens = env (IDENT ∷ IDENT ∷ []) (0 ∷ []); before = numbers 1 10000 20000 1 0; room = 196723 ∷ 1 ∷ 0 ∷ 0 ∷ []; answers = 0 ∷ 1 ∷ 1 ∷ 0 ∷ []; after = numbers 1 10000 20000 1 7; left = 196723 ∷ 1 ∷ 0 ∷ 0 ∷ [] }
+    ∷ record { acts = last_look; tokens = env (IDENT ∷ IDENT ∷ []) (0 ∷ []); before = numbers 0 9999 9999 0 0; room = replicate 4 0; answers = 1 ∷ []; after = numbers 1 0 10000 1 0; left = 196723 ∷ 1 ∷ 0 ∷ 0 ∷ [] }
+    ∷ record { acts = one_look; tokens = env (IDENT ∷ IDENT ∷ []) (0 ∷ []); before = numbers 1 10000 20000 1 0; room = 196723 ∷ 1 ∷ 0 ∷ 0 ∷ []; answers = 0 ∷ 1 ∷ 1 ∷ 0 ∷ []; after = numbers 1 10000 20000 1 7; left = 196723 ∷ 1 ∷ 0 ∷ 0 ∷ [] }
     ∷ record { acts = recovery; tokens = env (IDENT ∷ SEMICOLON ∷ R-CURLY ∷ []) (0 ∷ []); before = new; room = replicate 16 0; answers = []; after = numbers 2 1 7 7 0; left = 65650 ∷ 0 ∷ 262147 ∷ 0 ∷ 196723 ∷ 1 ∷ 131072 ∷ 0 ∷ 262147 ∷ 0 ∷ 196611 ∷ 1 ∷ 262148 ∷ 0 ∷ 0 ∷ 0 ∷ [] }
     ∷ record { acts = markers; tokens = env [] []; before = new; room = replicate 16 0; answers = 0 ∷ 1 ∷ 2 ∷ 3 ∷ []; after = numbers 0 0 0 5 0; left = 65536 ∷ 1 ∷ 65698 ∷ 2 ∷ 131072 ∷ 0 ∷ 65696 ∷ 4294967294 ∷ 131072 ∷ 0 ∷ replicate 6 0 }
-    ∷ record { acts = markersThen; tokens = env [] []; before = new; room = replicate 16 0; answers = 0 ∷ 1 ∷ 2 ∷ 3 ∷ []; after = numbers 0 0 0 5 8; left = 65536 ∷ 1 ∷ 65698 ∷ 2 ∷ 131072 ∷ 0 ∷ 65696 ∷ 4294967294 ∷ 131072 ∷ 0 ∷ replicate 6 0 }
+    ∷ record { acts = markers_then; tokens = env [] []; before = new; room = replicate 16 0; answers = 0 ∷ 1 ∷ 2 ∷ 3 ∷ []; after = numbers 0 0 0 5 8; left = 65536 ∷ 1 ∷ 65698 ∷ 2 ∷ 131072 ∷ 0 ∷ 65696 ∷ 4294967294 ∷ 131072 ∷ 0 ∷ replicate 6 0 }
     ∷ record { acts = early; tokens = env [] []; before = new; room = replicate 4 0; answers = 0 ∷ []; after = numbers 0 0 0 1 8; left = 65536 ∷ 0 ∷ 0 ∷ 0 ∷ [] }
-    ∷ record { acts = toError; tokens = env [] []; before = new; room = replicate 4 0; answers = []; after = numbers 0 0 0 1 8; left = 262146 ∷ 0 ∷ 0 ∷ 0 ∷ [] }
-    ∷ record { acts = linkedLast; tokens = env [] []; before = new; room = replicate 4 0; answers = 0 ∷ 1 ∷ []; after = numbers 0 0 0 2 8; left = 65536 ∷ 0 ∷ 65536 ∷ 1 ∷ [] }
+    ∷ record { acts = to_error; tokens = env [] []; before = new; room = replicate 4 0; answers = []; after = numbers 0 0 0 1 8; left = 262146 ∷ 0 ∷ 0 ∷ 0 ∷ [] }
+    ∷ record { acts = linked_last; tokens = env [] []; before = new; room = replicate 4 0; answers = 0 ∷ 1 ∷ []; after = numbers 0 0 0 2 8; left = 65536 ∷ 0 ∷ 65536 ∷ 1 ∷ [] }
     ∷ record { acts = stays; tokens = env (IDENT ∷ SEMICOLON ∷ []) (0 ∷ []); before = new; room = replicate 8 5; answers = 0 ∷ 1 ∷ 0 ∷ 1 ∷ 0 ∷ 0 ∷ 1 ∷ 1 ∷ []; after = numbers 0 0 0 1 6; left = 65536 ∷ 0 ∷ replicate 6 5 }
     ∷ []
 
 pub all_come : map comes edges ≡ map wanted edges
-unfolding run step ◌>>=◌ errRecover bump bumpAny expect must goesOn atTs bit one_of seen standsAt parts_of encode decode eventsOf leftOver words_of looked halted eventAt pushEvent consume doBump named linked dropped
+unfolding run step ◌>>=◌ err_recover bump bump_any expect must goes_on at_ts bit one_of seen stands_at parts_of encode decode events_of left_over words_of looked halted event_at push_event consume do_bump named linked dropped
 all_come = refl

@@ -3,12 +3,12 @@ use Rattle.std.proofs.Common.{◌≡◌, ℕ, ◌+◌, ◌-◌, ◌*◌, ◌<◌
 use lib.ListN.{get_or-eq_default}
 use borrow.Author.Tests.{eqb-false}
 use Rattle.runtime.specs.declared.parser.Parser.{Parser}
-use Rattle.input.specs.Input.{Env, mostTokens}
+use Rattle.input.specs.Input.{Env, most_tokens}
 use Rattle.event.specs.declared.Event.{Event}
 use Rattle.event.specs.declared.Event.TheVariants.{Token, NoEvent}
 use Rattle.laws.proofs.Tests.{by-test}
 use Rattle.input.proofs.Reading.{few-parts}
-use Rattle.runtime.specs.State.{St, mostLooks, refusal, counted, consumed, Fit}
+use Rattle.runtime.specs.State.{St, most_looks, refusal, counted, consumed, Fit}
 use Rattle.runtime.specs.Cover.{Stands}
 use Rattle.runtime.specs.Acts.{Acts, run, left}
 use Rattle.runtime.proofs.Kept.{KeptBy, Kept, kept_run}
@@ -159,7 +159,7 @@ inside-run e m s h =
     h
 
 -- What is left is spent, and never gained: a lookup takes one, a token more than the lookups before it, a refusal all.
-left-live : (p : Parser) → p.refused ≡ 0 → left p ≡ 1 + (mostTokens - p.pos) * 10001 + (mostLooks - p.since)
+left-live : (p : Parser) → p.refused ≡ 0 → left p ≡ 1 + (most_tokens - p.pos) * 10001 + (most_looks - p.since)
 unfolding left
 left-live p z = rw z
 
@@ -167,10 +167,10 @@ left-refused : (n : ℕ) (p : Parser) → p.refused ≡ 0 → left (refusal n p)
 unfolding left
 left-refused n p z = by-test (λ (x : ℕ). x ≤ left p) (eqb n 0) _ 0 (λ q. rw z (le_refl _)) (λ q. omega arith)
 
-pub counted-spends : (p : Parser) → p.refused ≡ 0 → p.since < mostLooks → left (counted p) < left p
+pub counted-spends : (p : Parser) → p.refused ≡ 0 → p.since < most_looks → left (counted p) < left p
 counted-spends p z l = rw (left-live p z, left-live (counted p) z) (omega arith)
 
-pub consumed-spends : (n : ℕ) (p : Parser) → p.refused ≡ 0 → 1 ≤ n → p.pos + n ≤ mostTokens → left (consumed n p) < left p
+pub consumed-spends : (n : ℕ) (p : Parser) → p.refused ≡ 0 → 1 ≤ n → p.pos + n ≤ most_tokens → left (consumed n p) < left p
 consumed-spends n p z h m = rw (left-live p z, left-live (consumed n p) z) (omega arith)
 
 spends : (e : Env) (n : ℕ) → Kept e (λ (r : St). left r.p ≤ n)

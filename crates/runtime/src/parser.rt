@@ -1,12 +1,12 @@
 // The parser's state and operations: src/parser.rs. Each operation hands the state back, and is proved equal to its acts.
 ghost use Rattle.std.specs.Prelude.{◌≡◌, ◌+◌, ◌<◌, ◌≤◌};
-ghost use Rattle.kinds.specs.Sets.{kindsOf};
+ghost use Rattle.kinds.specs.Sets.{kinds_of};
 ghost use Rattle.input.specs.Input.{env, seen};
-ghost use Rattle.event.specs.Event.{Sound, isStart, is_bare};
+ghost use Rattle.event.specs.Event.{Sound, is_start, is_bare};
 ghost use Rattle.runtime.specs.State as state;
-ghost use Rattle.runtime.specs.State.{view, Fit, Begins, Moves, eventAt};
+ghost use Rattle.runtime.specs.State.{view, Fit, Begins, Moves, event_at};
 ghost use Rattle.runtime.specs.Acts as acts;
-ghost use Rattle.runtime.specs.Acts.{Does, Steps, Peeks, nthSees, sees, goes, stopped};
+ghost use Rattle.runtime.specs.Acts.{Does, Steps, Peeks, nth_sees, sees, goes, stopped};
 
 use event::{EVENT_WORDS, Event};
 use kinds::sets::Fixed;
@@ -72,7 +72,7 @@ pub enum Stop {
 impl Stop {
     // The refusal's number.
     fn number(self) -> u32
-        ensures { result ≡ state.stopNumber self }
+        ensures { result ≡ state.stop_number self }
     {
         match self {
             Stop::Deep => 6,
@@ -181,7 +181,7 @@ impl Parser {
     pub fn nth_at(self, kinds: &[u16], joints: &[u64], n: usize, kind: u16) -> bool
         requires fit { Fit self }
         requires n_bound { n ≤ 3 }
-        ensures { result ≡ nthSees (env kinds.now joints.now) self n kind }
+        ensures { result ≡ nth_sees (env kinds.now joints.now) self n kind }
     {
         if input::is_plain(kind) {
             return input::kind(kinds, self.refused, self.pos + n) == kind;
@@ -203,7 +203,7 @@ impl Parser {
 
     pub fn at_ts(self, kinds: &[u16], joints: &[u64], set: Fixed) -> Told
         requires { Fit self }
-        ensures { Peeks (env kinds.now joints.now) (acts.atTs (kindsOf set)) self result.yes result.p }
+        ensures { Peeks (env kinds.now joints.now) (acts.at_ts (kinds_of set)) self result.yes result.p }
     {
         let l = self.current(kinds, joints);
         let p = l.p;
@@ -217,7 +217,7 @@ impl Parser {
     fn push_event(self, room: &mut [u32], e: Event) -> Parser
         requires fit { Fit self }
         requires sound { Sound e }
-        ensures { Moves (state.pushEvent e) (view self room.old) (view result room.new) }
+        ensures { Moves (state.push_event e) (view self room.old) (view result room.new) }
     {
         if self.refused != 0 {
             return self;
@@ -240,7 +240,7 @@ impl Parser {
     fn do_bump(self, kinds: &[u16], joints: &[u64], room: &mut [u32], kind: u16, n: usize) -> Parser
         requires fit { Fit self }
         requires le_n { (1 ≤ n) × (n ≤ 3) }
-        ensures { view result room.new ≡ state.doBump (env kinds.now joints.now) kind n (view self room.old) }
+        ensures { view result room.new ≡ state.do_bump (env kinds.now joints.now) kind n (view self room.old) }
     {
         if self.refused != 0 {
             return self;
@@ -293,7 +293,7 @@ impl Parser {
     // Consumes the token here, if there is one: one lookup.
     pub fn bump_any(self, kinds: &[u16], joints: &[u64], room: &mut [u32]) -> Parser
         requires { Fit self }
-        ensures { Does (env kinds.now joints.now) acts.bumpAny (view self room.old) tt (view result room.new) }
+        ensures { Does (env kinds.now joints.now) acts.bump_any (view self room.old) tt (view result room.new) }
     {
         let l = self.nth(kinds, joints, 0);
         let p = l.p;
@@ -321,7 +321,7 @@ impl Parser {
         kind: u16,
     ) -> Parser
         requires { Fit self }
-        ensures { Does (env kinds.now joints.now) (acts.errorExpected kind) (view self room.old) tt (view result room.new) }
+        ensures { Does (env kinds.now joints.now) (acts.error_expected kind) (view self room.old) tt (view result room.new) }
     {
         let found = self.ahead(kinds, 0);
         self.push_event(room, Event::Error(1, kind, found))
@@ -351,7 +351,7 @@ impl Parser {
 
     // Whether a start stands at a position.
     fn is_start(self, room: &[u32], m: usize) -> bool
-        ensures { result ≡ isStart (eventAt (view self room.now) m) }
+        ensures { result ≡ is_start (event_at (view self room.now) m) }
     {
         if m < self.len {
             if m < room.len() / EVENT_WORDS {
@@ -429,7 +429,7 @@ impl Parser {
 
     // Whether a start with neither kind nor distance stands at a position.
     fn is_bare(self, room: &[u32], m: usize) -> bool
-        ensures { result ≡ is_bare (eventAt (view self room.now) m) }
+        ensures { result ≡ is_bare (event_at (view self room.now) m) }
     {
         if m < self.len {
             if m < room.len() / EVENT_WORDS {
@@ -455,7 +455,7 @@ impl Parser {
     // Extends a completed node to the left, up to a start.
     pub fn extend_to(self, room: &mut [u32], cm: Completed, m: u32) -> Done
         requires { Fit self }
-        ensures { Steps (acts.extendTo cm m) (view self room.old) result.cm (view result.p room.new) }
+        ensures { Steps (acts.extend_to cm m) (view self room.old) result.cm (view result.p room.new) }
     {
         let distance = std::num::wrapping_sub_u32(cm.pos, m);
         let p = self.link(room, m as usize, distance);
@@ -472,7 +472,7 @@ impl Parser {
         set: Fixed,
     ) -> Parser
         requires { Fit self }
-        ensures { Does (env kinds.now joints.now) (acts.errRecover code (kindsOf set)) (view self room.old) tt (view result room.new) }
+        ensures { Does (env kinds.now joints.now) (acts.err_recover code (kinds_of set)) (view self room.old) tt (view result room.new) }
     {
         let l = self.current(kinds, joints);
         let p1 = l.p;
@@ -498,7 +498,7 @@ impl Parser {
 
     pub fn err_and_bump(self, kinds: &[u16], joints: &[u64], room: &mut [u32], code: u16) -> Parser
         requires { Fit self }
-        ensures { Does (env kinds.now joints.now) (acts.errAndBump code) (view self room.old) tt (view result room.new) }
+        ensures { Does (env kinds.now joints.now) (acts.err_and_bump code) (view self room.old) tt (view result room.new) }
     {
         self.err_recover(kinds, joints, room, code, Fixed::Empty)
     }

@@ -1,7 +1,7 @@
 // A set's line: its name, the ones of its words, and the kinds that its listing has.
 ghost use Rattle.std.specs.Prelude.{length, true, cond, ◌≡◌};
 ghost use Rattle.kinds.specs.Membership.{once};
-ghost use Rattle.kinds.specs.Sets.{kindsOf};
+ghost use Rattle.kinds.specs.Sets.{kinds_of};
 
 use crate::named::names;
 use kinds::sets::{Fixed, set_of};
@@ -24,7 +24,7 @@ fn one(yes: bool) -> u64
 
 // Asks the listing and the words of every number.
 fn ask(set: Fixed) -> Asked
-    ensures { (result.listed ≡ length (once (kindsOf set))) × (result.same ≡ true) }
+    ensures { (result.listed ≡ length (once (kinds_of set))) × (result.same ≡ true) }
 {
     let words = set_of(set);
     let mut listed = 0;

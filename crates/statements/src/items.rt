@@ -4,7 +4,7 @@ ghost use Rattle.input.specs.Input.{env};
 ghost use Rattle.runtime.specs.State.{view, Fit};
 ghost use Rattle.runtime.specs.Acts.{Does, Peeks, Steps};
 ghost use Rattle.grammar.specs.Items as acts;
-ghost use Rattle.kinds.specs.Sets.{kindsOf};
+ghost use Rattle.kinds.specs.Sets.{kinds_of};
 
 use kinds::sets::Fixed;
 use kinds::{messages as say, syntax_kind as kind, syntax_kind_enum as k};
@@ -47,7 +47,7 @@ pub fn end_(kinds: &[u16], joints: &[u64], room: &mut [u32], p: Parser, m: u32) 
 
 fn filepath_r(kinds: &[u16], joints: &[u64], room: &mut [u32], p: Parser, recovery: Fixed) -> Parser
     requires { Fit p }
-    ensures { Does (env kinds.now joints.now) (acts.filepathR (kindsOf recovery)) (view p room.old) tt (view result room.new) }
+    ensures { Does (env kinds.now joints.now) (acts.filepath_r (kinds_of recovery)) (view p room.old) tt (view result room.new) }
 {
     if p.at(kinds, joints, k::STRING) {
         let s = p.start(room);
@@ -98,7 +98,7 @@ fn skip_to_semicolon(
     number: bool,
 ) -> Parser
     requires { Fit p }
-    ensures { Does (env kinds.now joints.now) (acts.skipToSemicolon number) (view p room.old) tt (view result room.new) }
+    ensures { Does (env kinds.now joints.now) (acts.skip_to_semicolon number) (view p room.old) tt (view result room.new) }
 {
     if number {
         return p;
@@ -126,7 +126,7 @@ fn version_(kinds: &[u16], joints: &[u64], room: &mut [u32], p: Parser) -> Parse
 
 pub fn version_string(kinds: &[u16], joints: &[u64], room: &mut [u32], p: Parser, m: u32) -> Parser
     requires { Fit p }
-    ensures { Does (env kinds.now joints.now) (acts.versionString m) (view p room.old) tt (view result room.new) }
+    ensures { Does (env kinds.now joints.now) (acts.version_string m) (view p room.old) tt (view result room.new) }
 {
     let p1 = p.bump(kinds, joints, room, k::O_P_E_N_Q_A_S_M_KW);
     let p2 = version_(kinds, joints, room, p1);
@@ -137,7 +137,7 @@ pub fn version_string(kinds: &[u16], joints: &[u64], room: &mut [u32], p: Parser
 // The error of an input or output whose type is not classical.
 pub fn io_type(kinds: &[u16], joints: &[u64], room: &mut [u32], p: Parser) -> Parser
     requires { Fit p }
-    ensures { Does (env kinds.now joints.now) acts.ioType (view p room.old) tt (view result room.new) }
+    ensures { Does (env kinds.now joints.now) acts.io_type (view p room.old) tt (view result room.new) }
 {
     let l = p.current(kinds, joints);
     let p1 = l.p;
@@ -150,7 +150,7 @@ pub fn io_type(kinds: &[u16], joints: &[u64], room: &mut [u32], p: Parser) -> Pa
 // The end of a qubit's declaration: its name.
 pub fn qubit_end(kinds: &[u16], joints: &[u64], room: &mut [u32], p: Parser, m: u32) -> Parser
     requires { Fit p }
-    ensures { Does (env kinds.now joints.now) (acts.qubitEnd m) (view p room.old) tt (view result room.new) }
+    ensures { Does (env kinds.now joints.now) (acts.qubit_end m) (view p room.old) tt (view result room.new) }
 {
     if p.at(kinds, joints, k::HARDWAREIDENT) {
         let h = grammar::hardware_qubit(kinds, joints, room, p);

@@ -102,7 +102,7 @@ pub fn shape_of(flavor: DefFlavor) -> Shape
 
 pub fn param_untyped(kinds: &[u16], joints: &[u64], room: &mut [u32], p: Parser, m: u32) -> Told
     requires { Fit p }
-    ensures { Does (env kinds.now joints.now) (acts.paramUntyped m) (view p room.old) result.yes (view result.p room.new) }
+    ensures { Does (env kinds.now joints.now) (acts.param_untyped m) (view p room.old) result.yes (view result.p room.new) }
 {
     if p.at(kinds, joints, k::IDENT) {
         let p1 = p.bump(kinds, joints, room, k::IDENT);
@@ -124,7 +124,7 @@ pub fn list_open(
     shape: Shape,
 ) -> Started
     requires { Fit p }
-    ensures { Does (env kinds.now joints.now) (acts.listOpen shape) (view p room.old) result.m (view result.p room.new) }
+    ensures { Does (env kinds.now joints.now) (acts.list_open shape) (view p room.old) result.m (view result.p room.new) }
 {
     let s = p.start(room);
     let p1 = s.p;
@@ -138,7 +138,7 @@ pub fn list_open(
 // Whether the list ends here.
 fn at_list_end(kinds: &[u16], joints: &[u64], p: Parser, shape: Shape) -> bool
     requires { Fit p }
-    ensures { result ≡ acts.endsHere (env kinds.now joints.now) p shape }
+    ensures { result ≡ acts.ends_here (env kinds.now joints.now) p shape }
 {
     if p.at(kinds, joints, shape.end) {
         return true;
@@ -149,7 +149,7 @@ fn at_list_end(kinds: &[u16], joints: &[u64], p: Parser, shape: Shape) -> bool
 // Whether the list goes on here.
 pub fn list_goes(kinds: &[u16], joints: &[u64], p: Parser, shape: Shape) -> bool
     requires { Fit p }
-    ensures { result ≡ acts.goesHere (env kinds.now joints.now) p shape }
+    ensures { result ≡ acts.goes_here (env kinds.now joints.now) p shape }
 {
     if p.at(kinds, joints, k::EOF) {
         return false;
@@ -163,7 +163,7 @@ pub fn list_goes(kinds: &[u16], joints: &[u64], p: Parser, shape: Shape) -> bool
 // Whether a parameter begins here.
 pub fn param_ahead(kinds: &[u16], joints: &[u64], p: Parser) -> Told
     requires { Fit p }
-    ensures { Peeks (env kinds.now joints.now) acts.paramAhead p result.yes result.p }
+    ensures { Peeks (env kinds.now joints.now) acts.param_ahead p result.yes result.p }
 {
     let l = p.current(kinds, joints);
     let p1 = l.p;
@@ -176,7 +176,7 @@ pub fn param_ahead(kinds: &[u16], joints: &[u64], p: Parser) -> Told
 // After a parameter: whether another one is to follow.
 pub fn list_next(kinds: &[u16], joints: &[u64], room: &mut [u32], p: Parser, shape: Shape) -> Told
     requires { Fit p }
-    ensures { Does (env kinds.now joints.now) (acts.listNext shape) (view p room.old) result.yes (view result.p room.new) }
+    ensures { Does (env kinds.now joints.now) (acts.list_next shape) (view p room.old) result.yes (view result.p room.new) }
 {
     if at_list_end(kinds, joints, p, shape) {
         return Told { p, yes: false };
@@ -197,7 +197,7 @@ pub fn list_next(kinds: &[u16], joints: &[u64], room: &mut [u32], p: Parser, sha
 // The error of an empty list where one must not be.
 fn list_empty(room: &mut [u32], p: Parser, one: bool, n: u32) -> Parser
     requires { Fit p }
-    ensures { Steps (acts.listEmpty one n) (view p room.old) tt (view result room.new) }
+    ensures { Steps (acts.list_empty one n) (view p room.old) tt (view result room.new) }
 {
     if one {
         if n < 1 {
@@ -218,7 +218,7 @@ pub fn list_end(
     n: u32,
 ) -> Parser
     requires { Fit p }
-    ensures { Does (env kinds.now joints.now) (acts.listEnd m shape n) (view p room.old) tt (view result room.new) }
+    ensures { Does (env kinds.now joints.now) (acts.list_end m shape n) (view p room.old) tt (view result room.new) }
 {
     let p1 = list_empty(room, p, shape.one, n);
     if shape.parens {

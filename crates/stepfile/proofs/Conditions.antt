@@ -11,7 +11,7 @@ use lib.Seq.{take-length, get_or-drop}
 use borrow.Author.Tests.{ne_eqb, lt-ltb, le-ltb, eqb-true, ltb-true, ltb-false}
 use Rattle.records.specs.declared.Step.{Step}
 use Rattle.records.specs.declared.Step.TheVariants.{Enter, Leave, Error}
-use Rattle.records.specs.Record.{recordOf, bytes, Sound as SoundStep, Sounds}
+use Rattle.records.specs.Record.{record_of, bytes, Sound as SoundStep, Sounds}
 use Rattle.laws.proofs.Tests.{by-test}
 use Rattle.records.proofs.Writes.{bytes-append}
 use Rattle.stepfile.specs.declared.Found.{Found}
@@ -20,8 +20,8 @@ use Rattle.stepfile.specs.declared.Nodes.TheVariants.{Open, Fault}
 use Rattle.stepfile.specs.Front.{two, step_of, front, behind}
 use Rattle.stepfile.specs.Answer.{Numbers, says, refuses}
 use Rattle.stepfile.specs.Nesting.{nest}
-use Rattle.stepfile.specs.File.{ended, fileRead}
-use Rattle.stepfile.specs.OneByOne.{Walked, walkedIn, walked, judged}
+use Rattle.stepfile.specs.File.{ended, file_read}
+use Rattle.stepfile.specs.OneByOne.{Walked, walked_in, walked, judged}
 use Rattle.stepfile.specs.Good.{Bytes, enters, leaves, Good, Upto, Cut, Unsound, Breaks, Breaks.again, Breaks.below, Breaks.none, Breaks.inside, Verdict, Verdict.good, Verdict.cut, Verdict.unsound, Verdict.unnested}
 use Rattle.stepfile.proofs.Fronts.{a-token, an-expected, no_record}
 use Rattle.stepfile.proofs.Inverse.{behind-step, record-there}
@@ -66,22 +66,22 @@ pub sounds-join : (us vs : List Step) → Sounds us → Sounds vs → Sounds (us
 sounds-join [] vs h k = k
 sounds-join (u ∷ us) vs h k = (h.0, sounds-join us vs h.1 k)
 
-bytes-cons : (s : Step) (ss : List Step) → bytes (s ∷ ss) ≡ recordOf s ++ bytes ss
+bytes-cons : (s : Step) (ss : List Step) → bytes (s ∷ ss) ≡ record_of s ++ bytes ss
 unfolding bytes
 bytes-cons s ss = refl
 
 -- ---- what a file reads as, step by step, is the file
 
 bytes-behind : (bs : List ℕ) (s : Step) → Bytes bs → front bs ≡ F.Sound s → Bytes (behind bs)
-bytes-behind bs s h e i = rw (behind-step bs s e, get_or-drop) (h (length (recordOf s) + i))
+bytes-behind bs s h e i = rw (behind-step bs s e, get_or-drop) (h (length (record_of s) + i))
 
 pub record Told (bs : List ℕ) (w : Walked) : Type 0 where
   pub sound : Sounds w.steps
   pub file : bs ≡ bytes w.steps ++ w.rest
   pub last : (s : Step) → front w.rest ≡ F.Sound s → ⊥
 
-pub tells : (n : ℕ) (bs : List ℕ) → length bs ≤ n → Bytes bs → Told bs (walkedIn n bs)
-unfolding walkedIn bytes
+pub tells : (n : ℕ) (bs : List ℕ) → length bs ≤ n → Bytes bs → Told bs (walked_in n bs)
+unfolding walked_in bytes
 tells zero [] h b = record { sound = tt; file = refl; last = ended-there }
   where
     ended-there : (s : Step) → front [] ≡ F.Sound s → ⊥
@@ -97,11 +97,11 @@ tells (suc n) bs h b = on (λ s e. tells n (behind bs) (shorter bs s n e h) (byt
     none : (f : Found) → front bs ≡ f → ((s : Step) → f ≡ F.Sound s → ⊥) → Told bs (record { steps = []; rest = bs })
     none f e not = record { sound = tt; file = refl; last = λ s q. not s (sym e ∙ q) }
 
-    on : ((s : Step) → front bs ≡ F.Sound s → Told (behind bs) (walkedIn n (behind bs))) → (f : Found) → front bs ≡ f → Told bs (walkedIn (suc n) bs)
+    on : ((s : Step) → front bs ≡ F.Sound s → Told (behind bs) (walked_in n (behind bs))) → (f : Found) → front bs ≡ f → Told bs (walked_in (suc n) bs)
     on ih (F.Sound s) e =
         let t = ih s e in
         let r = record-there bs b s e in
-        rw e (record { sound = (r.1, t.sound); file = r.0 ∙ ap (λ (l : List ℕ). recordOf s ++ l) t.file ∙ sym (append_assoc (recordOf s) (bytes (walkedIn n (behind bs)).steps) (walkedIn n (behind bs)).rest); last = t.last })
+        rw e (record { sound = (r.1, t.sound); file = r.0 ∙ ap (λ (l : List ℕ). record_of s ++ l) t.file ∙ sym (append_assoc (record_of s) (bytes (walked_in n (behind bs)).steps) (walked_in n (behind bs)).rest); last = t.last })
     on ih F.End e = rw e (none F.End e (λ s q. let z : ◌≡◌ {A = ℕ} 0 1 = cc in omega arith))
     on ih F.Cut e = rw e (none F.Cut e (λ s q. let z : ◌≡◌ {A = ℕ} 0 1 = cc in omega arith))
     on ih F.Unsound e = rw e (none F.Unsound e (λ s q. let z : ◌≡◌ {A = ℕ} 0 1 = cc in omega arith))
@@ -168,7 +168,7 @@ module _ (bs : List ℕ) (ss : List Step) (rest : List ℕ) (sounds : Sounds ss)
       refl
 
   -- a sound record that breaks the nesting
-  broke-verdict : (s : Step) (more : List ℕ) (d : ℕ) → SoundStep s → rest ≡ recordOf s ++ more → depth 0 0 ss ≡ Open d → nest (length ss) d s ≡ Fault → Verdict bs (refuses 13 (length (bytes ss)))
+  broke-verdict : (s : Step) (more : List ℕ) (d : ℕ) → SoundStep s → rest ≡ record_of s ++ more → depth 0 0 ss ≡ Open d → nest (length ss) d s ≡ Fault → Verdict bs (refuses 13 (length (bytes ss)))
   broke-verdict s more d h g e n =
       let c = reaches-proceeds ss 0 0 d e in
       unnested (length (bytes ss)) (record { upto = upto bs ss rest d e sounds file; breaks = by (why (length ss) d s n) c.1 })
@@ -178,7 +178,7 @@ module _ (bs : List ℕ) (ss : List Step) (rest : List ℕ) (sounds : Sounds ss)
       by (low l) c = below s more h g (omega (arith, enters-append ss (s ∷ []), leaves-append ss (s ∷ [])))
 
 -- Every file of bytes is told by what holds of it.
-pub verdict : (bs : List ℕ) → Bytes bs → Verdict bs (fileRead bs)
+pub verdict : (bs : List ℕ) → Bytes bs → Verdict bs (file_read bs)
 verdict bs b = rw (agree (length bs) bs 0 0 0 (omega arith)) (on (ends (walked bs).steps 0 0 0 (front (walked bs).rest)))
   where
     t : Told bs (walked bs)
@@ -190,9 +190,9 @@ verdict bs b = rw (agree (length bs) bs 0 0 0 (omega arith)) (on (ends (walked b
         (over-verdict bs (walked bs).steps (walked bs).rest t.sound t.file (front (walked bs).rest) d e (view (walked bs).rest) t.last)
     on (broke us s ts d g e n j) =
         let h = sounds-split us (s ∷ ts) (rw g at t.sound) in
-        let f : bs ≡ bytes us ++ (recordOf s ++ (bytes ts ++ (walked bs).rest)) =
-        t.file ∙ rw (g, bytes-append us (s ∷ ts), bytes-cons s ts) (append_assoc (bytes us) (recordOf s ++ bytes ts) (walked bs).rest ∙ rw append_assoc) in
-        rw (j, zero-add) (broke-verdict bs us (recordOf s ++ (bytes ts ++ (walked bs).rest)) h.0 f s (bytes ts ++ (walked bs).rest) d h.1.0 refl e (rw zero-add at n))
+        let f : bs ≡ bytes us ++ (record_of s ++ (bytes ts ++ (walked bs).rest)) =
+        t.file ∙ rw (g, bytes-append us (s ∷ ts), bytes-cons s ts) (append_assoc (bytes us) (record_of s ++ bytes ts) (walked bs).rest ∙ rw append_assoc) in
+        rw (j, zero-add) (broke-verdict bs us (record_of s ++ (bytes ts ++ (walked bs).rest)) h.0 f s (bytes ts ++ (walked bs).rest) d h.1.0 refl e (rw zero-add at n))
 
 -- ---- from what holds to what is said
 
@@ -201,7 +201,7 @@ proceeds : (bs : List ℕ) (p : ℕ) (u : Upto bs p) → Reaches 0 0 u.steps
 proceeds bs p u = proceeds-reaches u.steps 0 0 (record { begins = λ i z l. omega (arith, u.begins i (omega arith) l); never = λ i l. omega (arith, u.never i l) })
 
 from-there : (bs : List ℕ) (p : ℕ) (u : Upto bs p) (d : ℕ) → depth 0 0 u.steps ≡ Open d
-    → fileRead bs ≡ judged p (length u.steps) d (walked u.rest).steps (front (walked u.rest).rest)
+    → file_read bs ≡ judged p (length u.steps) d (walked u.rest).steps (front (walked u.rest).rest)
 from-there bs p u d e =
     agree (length bs) bs 0 0 0 (omega arith)
     ∙ rw (u.file, read_back (length (bytes u.steps ++ u.rest)) u.steps u.rest u.sound (omega arith), u.place)
@@ -209,8 +209,8 @@ from-there bs p u d e =
     ∙ rw (zero-add (length (bytes u.steps)), zero-add (length u.steps)))
 
 -- where no step stands nothing is read
-pub stops : (n : ℕ) (bs : List ℕ) (f : Found) → front bs ≡ f → ((s : Step) → f ≡ F.Sound s → ⊥) → walkedIn n bs ≡ record { steps = []; rest = bs }
-unfolding walkedIn
+pub stops : (n : ℕ) (bs : List ℕ) (f : Found) → front bs ≡ f → ((s : Step) → f ≡ F.Sound s → ⊥) → walked_in n bs ≡ record { steps = []; rest = bs }
+unfolding walked_in
 stops zero bs f e h = refl
 stops (suc n) bs (F.Sound s) e h = absurd (h s refl)
 stops (suc n) bs F.End e h = rw e
@@ -218,14 +218,14 @@ stops (suc n) bs F.Cut e h = rw e
 stops (suc n) bs F.Unsound e h = rw e
 
 -- a record that breaks the nesting where it stands
-said-broke : (bs : List ℕ) (p : ℕ) (u : Upto bs p) (d : ℕ) (s : Step) (more : List ℕ) → depth 0 0 u.steps ≡ Open d → SoundStep s → u.rest ≡ recordOf s ++ more
-    → nest (length u.steps) d s ≡ Fault → fileRead bs ≡ refuses 13 p
+said-broke : (bs : List ℕ) (p : ℕ) (u : Upto bs p) (d : ℕ) (s : Step) (more : List ℕ) → depth 0 0 u.steps ≡ Open d → SoundStep s → u.rest ≡ record_of s ++ more
+    → nest (length u.steps) d s ≡ Fault → file_read bs ≡ refuses 13 p
 unfolding judged
 said-broke bs p u d s more e h g n = from-there bs p u d e ∙ rw (g, walked-first s more (h, tt), n)
 
 -- at the end of the file
-said-end : (bs : List ℕ) (p : ℕ) (u : Upto bs p) (d : ℕ) → depth 0 0 u.steps ≡ Open d → u.rest ≡ [] → fileRead bs ≡ ended p (length u.steps) d
-unfolding judged walkedIn front
+said-end : (bs : List ℕ) (p : ℕ) (u : Upto bs p) (d : ℕ) → depth 0 0 u.steps ≡ Open d → u.rest ≡ [] → file_read bs ≡ ended p (length u.steps) d
+unfolding judged walked_in front
 said-end bs p u d e g = from-there bs p u d e ∙ rw g
 
 -- a good file, up to its end, which is at depth zero
@@ -250,7 +250,7 @@ good-depth bs g =
     let z : r.past ≡ 0 = omega (arith, r.count, g.zero) in
     r.opens ∙ ap Open z
 
-gives-good : (bs : List ℕ) (g : Good bs) → fileRead bs ≡ says 0 (length bs) (length g.steps)
+gives-good : (bs : List ℕ) (g : Good bs) → file_read bs ≡ says 0 (length bs) (length g.steps)
 unfolding all
 gives-good bs g =
     said-end bs (length (bytes g.steps)) (all bs g) 0 (good-depth bs g) refl
@@ -258,7 +258,7 @@ gives-good bs g =
     ∙ rw (ap length g.file)
 
 -- What holds of a file is what the whole-file call says.
-pub gives : (bs : List ℕ) (n : Numbers) → Verdict bs n → fileRead bs ≡ n
+pub gives : (bs : List ℕ) (n : Numbers) → Verdict bs n → file_read bs ≡ n
 unfolding judged
 gives bs n (good g) = gives-good bs g
 gives bs n (cut p c) =
@@ -273,7 +273,7 @@ gives bs n (unsound p c) =
     from-there bs p u r.past r.opens ∙ rw (stops (length u.rest) u.rest F.Unsound e (λ s q. let z : ◌≡◌ {A = ℕ} 0 1 = cc in omega arith), e)
 gives bs n (unnested p c) = by c.upto (proceeds bs p c.upto) c.breaks
   where
-    by : (u : Upto bs p) → Reaches 0 0 u.steps → Breaks u.steps u.rest → fileRead bs ≡ refuses 13 p
+    by : (u : Upto bs p) → Reaches 0 0 u.steps → Breaks u.steps u.rest → file_read bs ≡ refuses 13 p
     by u r (again s more h g z q) =
         let o : r.past ≡ 0 = omega (arith, r.count) in
         said-broke bs p u r.past s more r.opens h g (rw o (breaks-again (length u.steps) s z))

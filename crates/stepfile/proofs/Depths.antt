@@ -8,19 +8,19 @@ use mathlib.Core.List.{List, [], ◌∷◌, ◌++◌}
 use lib.ListN.{length, take, length-append}
 use Rattle.records.specs.declared.Step.{Step}
 use Rattle.records.specs.declared.Step.TheVariants.{Enter, Leave, Token, Error, Expected}
-use Rattle.records.specs.Record.{recordOf, bytes}
+use Rattle.records.specs.Record.{record_of, bytes}
 use Rattle.stepfile.specs.declared.Found.{Found}
 use Rattle.stepfile.specs.declared.Nodes.{Nodes}
 use Rattle.stepfile.specs.declared.Nodes.TheVariants.{Open, Fault}
 use Rattle.stepfile.specs.Answer.{refuses}
-use Rattle.stepfile.specs.Nesting.{after, nest, onNodes, nests}
+use Rattle.stepfile.specs.Nesting.{after, nest, on_nodes, nests}
 use Rattle.stepfile.specs.OneByOne.{judged}
 use Rattle.stepfile.specs.Good.{enters, leaves}
 
 -- the nodes open past some steps
 pub depth : ℕ → ℕ → List Step → Nodes
 depth r o [] = Open o
-depth r o (s ∷ ss) = onNodes (nest r o s) (λ p. depth (suc r) p ss) Fault
+depth r o (s ∷ ss) = on_nodes (nest r o s) (λ p. depth (suc r) p ss) Fault
 
 -- what one step enters and leaves
 abbrev enter : Step → ℕ
@@ -130,7 +130,7 @@ proceeds-reaches (s ∷ ss) r o h =
     record { past = t.past; opens = rw e t.opens; count = omega (arith, t.count, q.count, leaves-cons s ss, enters-cons s ss) }
 
 -- and back: steps that come to a depth proceed to it
-on-open : {A : Type 0} (m : Nodes) (g : ℕ → Nodes) (d : ℕ) → onNodes m g Fault ≡ Open d → ((p : ℕ) → m ≡ Open p → g p ≡ Open d → A) → A
+on-open : {A : Type 0} (m : Nodes) (g : ℕ → Nodes) (d : ℕ) → on_nodes m g Fault ≡ Open d → ((p : ℕ) → m ≡ Open p → g p ≡ Open d → A) → A
 on-open (Open p) g d e k = k p refl e
 on-open Fault g d e k = absurd (not-open d e)
 
@@ -171,9 +171,9 @@ judged-past [] ts at r o d f e = rw (same-open o d e, add-zero at, add-zero r)
 judged-past (s ∷ ss) ts at r o d f e =
     on-open (nest r o s) (λ p. depth (suc r) p ss) d e
     (λ p q g.
-    let a : at + length (recordOf s ++ bytes ss) ≡ at + length (recordOf s) + length (bytes ss) = omega (arith, length-append (recordOf s) (bytes ss)) in
+    let a : at + length (record_of s ++ bytes ss) ≡ at + length (record_of s) + length (bytes ss) = omega (arith, length-append (record_of s) (bytes ss)) in
     let b : r + suc (length ss) ≡ suc r + length ss = omega arith in
-    rw (q, a, b) (judged-past ss ts (at + length (recordOf s)) (suc r) p d f g))
+    rw (q, a, b) (judged-past ss ts (at + length (record_of s)) (suc r) p d f g))
 
 -- It ends where the steps do, at a depth; or at a step that breaks the nesting, past others that come to a depth.
 pub data Ends (at r o : ℕ) (ss : List Step) (f : Found) : Type 0 where
@@ -184,19 +184,19 @@ pub data Ends (at r o : ℕ) (ss : List Step) (f : Found) : Type 0 where
 pub ends : (ss : List Step) (at r o : ℕ) (f : Found) → Ends at r o ss f
 unfolding depth judged bytes
 ends [] at r o f = over o refl (rw (add-zero at, add-zero r))
-ends (s ∷ ss) at r o f = on (λ p. ends ss (at + length (recordOf s)) (suc r) p f) (nest r o s) refl
+ends (s ∷ ss) at r o f = on (λ p. ends ss (at + length (record_of s)) (suc r) p f) (nest r o s) refl
   where
-    further : (p : ℕ) → nest r o s ≡ Open p → Ends (at + length (recordOf s)) (suc r) p ss f → Ends at r o (s ∷ ss) f
+    further : (p : ℕ) → nest r o s ≡ Open p → Ends (at + length (record_of s)) (suc r) p ss f → Ends at r o (s ∷ ss) f
     further p q (over d e j) =
-        let a : at + length (recordOf s ++ bytes ss) ≡ at + length (recordOf s) + length (bytes ss) = omega (arith, length-append (recordOf s) (bytes ss)) in
+        let a : at + length (record_of s ++ bytes ss) ≡ at + length (record_of s) + length (bytes ss) = omega (arith, length-append (record_of s) (bytes ss)) in
         let b : r + suc (length ss) ≡ suc r + length ss = omega arith in
         over d (rw q e) (rw (q, a, b) j)
     further p q (broke us t ts d g e n j) =
-        let a : at + length (recordOf s ++ bytes us) ≡ at + length (recordOf s) + length (bytes us) = omega (arith, length-append (recordOf s) (bytes us)) in
+        let a : at + length (record_of s ++ bytes us) ≡ at + length (record_of s) + length (bytes us) = omega (arith, length-append (record_of s) (bytes us)) in
         let b : r + suc (length us) ≡ suc r + length us = omega arith in
         broke (s ∷ us) t ts d (ap (λ (l : List Step). s ∷ l) g) (rw q e) (rw b n) (rw (q, a) j)
 
-    on : ((p : ℕ) → Ends (at + length (recordOf s)) (suc r) p ss f) → (m : Nodes) → nest r o s ≡ m → Ends at r o (s ∷ ss) f
+    on : ((p : ℕ) → Ends (at + length (record_of s)) (suc r) p ss f) → (m : Nodes) → nest r o s ≡ m → Ends at r o (s ∷ ss) f
     on rest (Open p) q = further p q (rest p)
     on rest Fault q = broke [] s ss o refl refl (rw (add-zero r) q) (rw (q, add-zero at))
 
@@ -251,8 +251,8 @@ nests-depth [] (suc r) zero e = (refl, omega arith)
 nests-depth [] (suc r) (suc o) e = absurd (false-true e)
 nests-depth (s ∷ ss) r o e = (on (λ p q. (nests-depth ss (suc r) p q).0) (nest r o s) e, omega arith)
   where
-    on : ((p : ℕ) → nests (suc r) p ss ≡ true → depth (suc r) p ss ≡ Open 0) → (m : Nodes) → onNodes m (λ p. nests (suc r) p ss) false ≡ true
-        → onNodes m (λ p. depth (suc r) p ss) Fault ≡ Open 0
+    on : ((p : ℕ) → nests (suc r) p ss ≡ true → depth (suc r) p ss ≡ Open 0) → (m : Nodes) → on_nodes m (λ p. nests (suc r) p ss) false ≡ true
+        → on_nodes m (λ p. depth (suc r) p ss) Fault ≡ Open 0
     on rest (Open p) q = rest p q
     on rest Fault q = absurd (false-true q)
 

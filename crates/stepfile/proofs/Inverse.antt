@@ -10,7 +10,7 @@ use lib.Seq.{drop-cons}
 use borrow.Author.Tests.{ne_eqb, le-ltb, eqb-true, eqb-false, ltb-false}
 use Rattle.records.specs.declared.Step.{Step}
 use Rattle.records.specs.declared.Step.TheVariants.{Enter, Leave, Token, Error, Expected}
-use Rattle.records.specs.Record.{recordOf, Sound as SoundStep}
+use Rattle.records.specs.Record.{record_of, Sound as SoundStep}
 use Rattle.laws.proofs.Tests.{by-test}
 use Rattle.stepfile.specs.declared.Found.{Found}
 use Rattle.stepfile.specs.declared.Found.TheVariants.{Sound, End, Cut, Unsound}
@@ -27,18 +27,18 @@ whole : (bs : List ℕ) → 4 ≤ length bs → 4 + two bs 0 ≤ length bs → f
 unfolding front
 whole bs h g = rw (ne_eqb (length bs) 0 (λ z. omega arith), le-ltb (length bs) (4 + two bs 0) g)
 
-pub read-record : (s : Step) (more : List ℕ) → SoundStep s → front (recordOf s ++ more) ≡ Sound s
+pub read-record : (s : Step) (more : List ℕ) → SoundStep s → front (record_of s ++ more) ≡ Sound s
 unfolding step_of
-read-record (Enter k) more h = whole (recordOf (Enter k) ++ more) (omega arith) (omega arith) ∙ ap (λ (n : ℕ). Sound (Enter n)) (two_back k)
-read-record Leave more h = whole (recordOf Leave ++ more) (omega arith) (omega arith)
+read-record (Enter k) more h = whole (record_of (Enter k) ++ more) (omega arith) (omega arith) ∙ ap (λ (n : ℕ). Sound (Enter n)) (two_back k)
+read-record Leave more h = whole (record_of Leave ++ more) (omega arith) (omega arith)
 read-record (Token k n) more h =
-    whole (recordOf (Token k n) ++ more) (omega arith) (omega arith)
+    whole (record_of (Token k n) ++ more) (omega arith) (omega arith)
     ∙ rw (ne_eqb n 0 (λ z. omega (arith, h.1)), le-ltb 3 n h.2) (ap (λ (m : ℕ). Sound (Token m n)) (two_back k))
 read-record (Error c x) more h =
-    whole (recordOf (Error c x) ++ more) (omega arith) (omega arith)
+    whole (record_of (Error c x) ++ more) (omega arith) (omega arith)
     ∙ rw (two_back c, two_back x)
 read-record (Expected k f) more h =
-    whole (recordOf (Expected k f) ++ more) (omega arith) (omega arith)
+    whole (record_of (Expected k f) ++ more) (omega arith) (omega arith)
     ∙ rw (two_back k, two_back f)
 
 -- ---- what reads as a step is its record
@@ -87,8 +87,8 @@ by-sort P kind size bs s e a b c d g =
         (λ _. none)
 
 -- the record of a step has four bytes more than its payload
-size_of : (kind size : ℕ) (bs : List ℕ) (s : Step) → step_of kind size bs ≡ Sound s → length (recordOf s) ≡ 4 + size
-size_of kind size bs s e = by-sort (λ k z t. length (recordOf t) ≡ 4 + z) kind size bs s e refl refl (λ _ _. refl) refl (λ _. refl)
+size_of : (kind size : ℕ) (bs : List ℕ) (s : Step) → step_of kind size bs ≡ Sound s → length (record_of s) ≡ 4 + size
+size_of kind size bs s e = by-sort (λ k z t. length (record_of t) ≡ 4 + z) kind size bs s e refl refl (λ _ _. refl) refl (λ _. refl)
 
 -- what a front that is a step comes from
 opened : (bs : List ℕ) (s : Step) → front bs ≡ Sound s → (4 + two bs 0 ≤ length bs) × (step_of (two bs 2) (two bs 0) bs ≡ Sound s)
@@ -107,7 +107,7 @@ opened bs s =
     no_cut q = let z : ◌≡◌ {A = ℕ} 0 1 = cc in omega arith
 
 -- its record lies in the file
-pub step_fits : (bs : List ℕ) (s : Step) → front bs ≡ Sound s → length (recordOf s) ≤ length bs
+pub step_fits : (bs : List ℕ) (s : Step) → front bs ≡ Sound s → length (record_of s) ≤ length bs
 step_fits bs s e = let o = opened bs s e in omega (arith, o.0, size_of (two bs 2) (two bs 0) bs s o.1)
 
 pub taken-fits : (bs : List ℕ) → taken (front bs) ≤ length bs
@@ -119,7 +119,7 @@ taken-fits bs = on (front bs) refl
     on Cut e = omega arith
     on Unsound e = omega arith
 
-pub behind-step : (bs : List ℕ) (s : Step) → front bs ≡ Sound s → behind bs ≡ drop (length (recordOf s)) bs
+pub behind-step : (bs : List ℕ) (s : Step) → front bs ≡ Sound s → behind bs ≡ drop (length (record_of s)) bs
 unfolding behind
 behind-step bs s e = ap (λ (f : Found). drop (taken f) bs) e
 
@@ -143,7 +143,7 @@ module _ (bs : List ℕ) (small : Bytes bs) where
   halves i = (omega (arith, small i), omega (arith, small i), omega (arith, small i, small (i + 1)))
 
   There : ℕ → ℕ → Step → Type 0
-  There k z s = two bs 2 ≡ k → two bs 0 ≡ z → 4 + z ≤ length bs → (take (4 + z) bs ≡ recordOf s) × SoundStep s
+  There k z s = two bs 2 ≡ k → two bs 0 ≡ z → 4 + z ≤ length bs → (take (4 + z) bs ≡ record_of s) × SoundStep s
 
   there : (kind size : ℕ) (s : Step) → step_of kind size bs ≡ Sound s → There kind size s
   unfolding There firsts
@@ -157,7 +157,7 @@ module _ (bs : List ℕ) (small : Bytes bs) where
       let a = low 0 6 z (omega arith) in let b = low 2 5 k (omega arith) in let g = low 4 1 o (omega arith) in let c = halves 6 in let d = halves 8 in
       (take-firsts bs 10 0 h ∙ (cc (a.0, a.1, b.0, b.1, g.0, g.1, c.0, c.1, d.0, d.1)), (c.2, d.2)))
 
-  pub record-there : (s : Step) → front bs ≡ Sound s → (bs ≡ recordOf s ++ behind bs) × SoundStep s
+  pub record-there : (s : Step) → front bs ≡ Sound s → (bs ≡ record_of s ++ behind bs) × SoundStep s
   unfolding There
   record-there s e =
       let o = opened bs s e in

@@ -8,7 +8,7 @@ use lib.Dec.{eqb}
 use lib.ListN.{length, take, length-append}
 use lib.Seq.{take-append_seam, drop-append_seam}
 use Rattle.records.specs.declared.Step.{Step}
-use Rattle.records.specs.Record.{recordOf, bytes, Sound as SoundStep, Sounds}
+use Rattle.records.specs.Record.{record_of, bytes, Sound as SoundStep, Sounds}
 use Rattle.stepfile.specs.declared.Found.{Found}
 use Rattle.stepfile.specs.declared.Found.TheVariants as F
 use Rattle.stepfile.specs.declared.Answer.{Answer}
@@ -17,7 +17,7 @@ use Rattle.stepfile.specs.declared.Nodes.TheVariants.{Open}
 use Rattle.stepfile.specs.Front.{two, front, behind}
 use Rattle.stepfile.specs.Answer.{Numbers, says, refuses, numbers}
 use Rattle.stepfile.specs.Nesting.{nests}
-use Rattle.stepfile.specs.File.{fileRead}
+use Rattle.stepfile.specs.File.{file_read}
 use Rattle.stepfile.specs.OneByOne.{Walked, walked, judged}
 use Rattle.stepfile.specs.Good.{Bytes, Stands, Stands.nothing, Stands.past, Stands.step, Stands.other, Good, Verdict, Verdict.good, holds}
 use Rattle.stepfile.proofs.Inverse.{read-record, behind-step, record-there}
@@ -40,7 +40,7 @@ answered (A.Cut p) = refl
 answered (A.Unsound p) = refl
 answered (A.Unnested p) = refl
 
-pub file-unique : (bs : List ℕ) (a b : Answer) → numbers a ≡ fileRead bs → numbers b ≡ fileRead bs → a ≡ b
+pub file-unique : (bs : List ℕ) (a b : Answer) → numbers a ≡ file_read bs → numbers b ≡ file_read bs → a ≡ b
 file-unique bs a b p q = sym (answered a) ∙ ap answer-of (p ∙ sym q) ∙ answered b
 
 -- two fronts and rests that meet the contract of `read_step` are the same
@@ -50,7 +50,7 @@ step-unique bs f g r t p q = (p.0 ∙ sym q.0, p.1 ∙ sym q.1)
 -- ---- exactly when
 
 -- A number is given, with its place and the records, exactly when what it says holds.
-pub given : (bs : List ℕ) (n : Numbers) → Bytes bs → fileRead bs ≡ n → Verdict bs n
+pub given : (bs : List ℕ) (n : Numbers) → Bytes bs → file_read bs ≡ n → Verdict bs n
 given bs n b e = subst (Verdict bs) e (verdict bs b)
 
 -- (`gives` of Conditions is the other way round.)
@@ -84,13 +84,13 @@ module _ (bs : List ℕ) (b : Bytes bs) where
 -- ---- reading is the inverse of writing
 
 -- a record that is written, and anything behind it, reads as that step and that rest
-pub written-reads : (s : Step) (more : List ℕ) → SoundStep s → (front (recordOf s ++ more) ≡ F.Sound s) × (behind (recordOf s ++ more) ≡ more)
+pub written-reads : (s : Step) (more : List ℕ) → SoundStep s → (front (record_of s ++ more) ≡ F.Sound s) × (behind (record_of s ++ more) ≡ more)
 written-reads s more h =
     let e = read-record s more h in
-    (e, behind-step (recordOf s ++ more) s e ∙ drop-append_seam (recordOf s) more)
+    (e, behind-step (record_of s ++ more) s e ∙ drop-append_seam (record_of s) more)
 
 -- what reads as a step is its record, and the step is sound
-pub reads-written : (bs : List ℕ) (s : Step) → Bytes bs → front bs ≡ F.Sound s → (bs ≡ recordOf s ++ behind bs) × SoundStep s
+pub reads-written : (bs : List ℕ) (s : Step) → Bytes bs → front bs ≡ F.Sound s → (bs ≡ record_of s ++ behind bs) × SoundStep s
 reads-written bs s b e = record-there bs b s e
 
 -- every file is the writing of the steps that it reads as, and what is left; so a file that is read to its end is the writing of its steps
@@ -108,7 +108,7 @@ steps-read ss h = reads-steps ss h
 -- ---- the whole file and its steps
 
 -- The whole-file call says what the steps one by one come to, on every file.
-pub one_by_one : (bs : List ℕ) → fileRead bs ≡ judged 0 0 0 (walked bs).steps (front (walked bs).rest)
+pub one_by_one : (bs : List ℕ) → file_read bs ≡ judged 0 0 0 (walked bs).steps (front (walked bs).rest)
 one_by_one bs = agree (length bs) bs 0 0 0 (omega arith)
 
 -- The steps of a good file nest, and a file of sound steps that nest is good.
@@ -122,14 +122,14 @@ nests-good ss h e =
     record { steps = ss; sound = h; file = refl; some = omega (arith, d.1); zero = omega (arith, p.1); above = λ i z l. omega (arith, p.0.begins i (omega arith) l) }
 
 -- So of what is written for sound steps the call says done exactly where they nest.
-pub nested-done : (ss : List Step) → Sounds ss → nests 0 0 ss ≡ true → fileRead (bytes ss) ≡ says 0 (length (bytes ss)) (length ss)
+pub nested-done : (ss : List Step) → Sounds ss → nests 0 0 ss ≡ true → file_read (bytes ss) ≡ says 0 (length (bytes ss)) (length ss)
 unfolding nests-good
 nested-done ss h e = gives (bytes ss) _ (good (nests-good ss h e))
 
-pub done-nested : (ss : List Step) → Sounds ss → (fileRead (bytes ss)).code ≡ 0 → nests 0 0 ss ≡ true
+pub done-nested : (ss : List Step) → Sounds ss → (file_read (bytes ss)).code ≡ 0 → nests 0 0 ss ≡ true
 unfolding judged front
 done-nested ss h e =
-    let q : fileRead (bytes ss) ≡ judged 0 0 0 ss (front []) = one_by_one (bytes ss) ∙ rw (reads-steps ss h) in
+    let q : file_read (bytes ss) ≡ judged 0 0 0 ss (front []) = one_by_one (bytes ss) ∙ rw (reads-steps ss h) in
     on (ends ss 0 0 0 (front [])) (ap (λ (n : Numbers). n.code) (sym q) ∙ e)
   where
     on : Ends 0 0 0 ss (front []) → (judged 0 0 0 ss (front [])).code ≡ 0 → nests 0 0 ss ≡ true
@@ -142,7 +142,7 @@ done-nested ss h e =
 
 -- A good file cut anywhere is refused: with 13 at the cut where a record begins there, else with 11 where the cut record begins.
 pub cut-refused : (bs : List ℕ) (g : Good bs) (n : ℕ) → n < length bs
-    → fileRead (take n bs) ≡ refuses (cond (eqb (holds g.steps n) n) 13 11) (holds g.steps n)
+    → file_read (take n bs) ≡ refuses (cond (eqb (holds g.steps n) n) 13 11) (holds g.steps n)
 cut-refused bs g n l = rw g.file (cut-steps g.steps n g.sound (good-nests bs g) (rw g.file at l))
 
 -- So no good file begins another.

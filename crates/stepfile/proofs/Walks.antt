@@ -8,7 +8,7 @@ use lib.ListN.{length, drop, length-append, length-drop}
 use lib.Seq.{drop-append_seam, drop-drop}
 use Rattle.records.specs.declared.Step.{Step}
 use Rattle.records.specs.declared.Step.TheVariants.{Enter, Leave, Token, Error, Expected}
-use Rattle.records.specs.Record.{recordOf, bytes, Sounds}
+use Rattle.records.specs.Record.{record_of, bytes, Sounds}
 use Rattle.stepfile.specs.declared.Found.{Found}
 use Rattle.stepfile.specs.declared.Found.TheVariants.{Sound, End, Cut, Unsound}
 use Rattle.stepfile.specs.declared.Nodes.{Nodes}
@@ -18,16 +18,16 @@ use Rattle.stepfile.specs.declared.Walk.{Walk}
 use Rattle.stepfile.specs.declared.Turn.{Turn}
 use Rattle.stepfile.specs.declared.Turn.TheVariants.{On, Ends}
 use Rattle.stepfile.specs.Front.{front, behind}
-use Rattle.stepfile.specs.Nesting.{nest, onNodes}
+use Rattle.stepfile.specs.Nesting.{nest, on_nodes}
 use Rattle.stepfile.specs.Answer.{Numbers, refuses}
-use Rattle.stepfile.specs.File.{ended, onFound, walk}
-use Rattle.stepfile.specs.OneByOne.{Walked, walkedIn, walked, judged}
+use Rattle.stepfile.specs.File.{ended, on_found, walk}
+use Rattle.stepfile.specs.OneByOne.{Walked, walked_in, walked, judged}
 use Rattle.stepfile.specs.Inside.{Fits, passed, from, Turned}
 use Rattle.stepfile.proofs.Inverse.{read-record, step_fits, behind-step}
 use Rattle.stepfile.proofs.Nestings.{opens_one}
 
 -- every record has four bytes at least
-pub four : (s : Step) → 4 ≤ length (recordOf s)
+pub four : (s : Step) → 4 ≤ length (record_of s)
 four (Enter k) = omega arith
 four Leave = omega arith
 four (Token k n) = omega arith
@@ -35,29 +35,29 @@ four (Error c x) = omega arith
 four (Expected k f) = omega arith
 
 -- a step that stands at a place lies in the file: for who walks by places
-pub step-inside : (l : List ℕ) (at : ℕ) (f : Found) (s : Step) → f ≡ front (drop at l) → f ≡ Sound s → (at + length (recordOf s) ≤ length l) × (at + 4 ≤ at + length (recordOf s))
+pub step-inside : (l : List ℕ) (at : ℕ) (f : Found) (s : Step) → f ≡ front (drop at l) → f ≡ Sound s → (at + length (record_of s) ≤ length l) × (at + 4 ≤ at + length (record_of s))
 step-inside l at f s e q =
     let h = step_fits (drop at l) s (sym e ∙ q) in
     (omega (arith, h, four s, length-drop at l), omega (arith, four s))
 
 -- what is left behind a step is shorter
 pub shorter : (bs : List ℕ) (s : Step) (n : ℕ) → front bs ≡ Sound s → length bs ≤ suc n → length (behind bs) ≤ n
-shorter bs s n e h = rw (behind-step bs s e) (omega (arith, four s, length-drop (length (recordOf s)) bs))
+shorter bs s n e h = rw (behind-step bs s e) (omega (arith, four s, length-drop (length (record_of s)) bs))
 
 -- by what stands at the front, with the equation
-by_front : {A : Type 0} (f : Found) (g h : Step → A) (a b c : A) → ((s : Step) → f ≡ Sound s → g s ≡ h s) → onFound f g a b c ≡ onFound f h a b c
+by_front : {A : Type 0} (f : Found) (g h : Step → A) (a b c : A) → ((s : Step) → f ≡ Sound s → g s ≡ h s) → on_found f g a b c ≡ on_found f h a b c
 by_front (Sound s) g h a b c q = q s refl
 by_front End g h a b c q = refl
 by_front Cut g h a b c q = refl
 by_front Unsound g h a b c q = refl
 
-pub by-nodes : {A : Type 0} (m : Nodes) (g h : ℕ → A) (a : A) → ((p : ℕ) → g p ≡ h p) → onNodes m g a ≡ onNodes m h a
+pub by-nodes : {A : Type 0} (m : Nodes) (g h : ℕ → A) (a : A) → ((p : ℕ) → g p ≡ h p) → on_nodes m g a ≡ on_nodes m h a
 by-nodes (Open p) g h a q = q p
 by-nodes Fault g h a q = refl
 
 -- As many rounds as bytes are enough: more make no difference.
-pub rounds : (n m : ℕ) (bs : List ℕ) → length bs ≤ n → length bs ≤ m → walkedIn n bs ≡ walkedIn m bs
-unfolding walkedIn front
+pub rounds : (n m : ℕ) (bs : List ℕ) → length bs ≤ n → length bs ≤ m → walked_in n bs ≡ walked_in m bs
+unfolding walked_in front
 rounds zero zero bs h k = refl
 rounds zero (suc m) [] h k = refl
 rounds zero (suc m) (b ∷ bs) h k = absurd (omega arith)
@@ -71,22 +71,22 @@ rounds (suc n) (suc m) bs h k =
 module _ (at r o : ℕ) where
   told : (n : ℕ) (bs : List ℕ)
       → ((s : Step) (p : ℕ) → front bs ≡ Sound s
-      → walk n (drop (length (recordOf s)) bs) (at + length (recordOf s)) (suc r) p
-      ≡ judged (at + length (recordOf s)) (suc r) p (walkedIn n (behind bs)).steps (front (walkedIn n (behind bs)).rest))
+      → walk n (drop (length (record_of s)) bs) (at + length (record_of s)) (suc r) p
+      ≡ judged (at + length (record_of s)) (suc r) p (walked_in n (behind bs)).steps (front (walked_in n (behind bs)).rest))
       → (f : Found) → front bs ≡ f
-      → walk (suc n) bs at r o ≡ judged at r o (walkedIn (suc n) bs).steps (front (walkedIn (suc n) bs).rest)
-  unfolding walk walkedIn judged
+      → walk (suc n) bs at r o ≡ judged at r o (walked_in (suc n) bs).steps (front (walked_in (suc n) bs).rest)
+  unfolding walk walked_in judged
   told n bs ih (Sound s) e = rw e (by-nodes (nest r o s) _ _ _ (λ p. ih s p e))
   told n bs ih End e = rw (e, e)
   told n bs ih Cut e = rw (e, e)
   told n bs ih Unsound e = rw (e, e)
 
-pub agree : (n : ℕ) (bs : List ℕ) (at r o : ℕ) → length bs ≤ n → walk n bs at r o ≡ judged at r o (walkedIn n bs).steps (front (walkedIn n bs).rest)
-unfolding walk walkedIn judged front
+pub agree : (n : ℕ) (bs : List ℕ) (at r o : ℕ) → length bs ≤ n → walk n bs at r o ≡ judged at r o (walked_in n bs).steps (front (walked_in n bs).rest)
+unfolding walk walked_in judged front
 agree zero [] at r o h = refl
 agree zero (b ∷ bs) at r o h = absurd (omega arith)
 agree (suc n) bs at r o h =
-    told at r o n bs (λ s p e. rw (← behind-step bs s e) (agree n (behind bs) (at + length (recordOf s)) (suc r) p (shorter bs s n e h))) (front bs) refl
+    told at r o n bs (λ s p e. rw (← behind-step bs s e) (agree n (behind bs) (at + length (record_of s)) (suc r) p (shorter bs s n e h))) (front bs) refl
 
 -- so more rounds make no difference to it either
 pub walk-rounds : (n m : ℕ) (bs : List ℕ) (at r o : ℕ) → length bs ≤ n → length bs ≤ m → walk n bs at r o ≡ walk m bs at r o
@@ -101,13 +101,13 @@ unfolding walk passed
 round-step bs w s t f e q = rw q (on (nest w.records w.held s) refl)
   where
     size : ℕ
-    size = length (recordOf s)
+    size = length (record_of s)
 
     fits : w.at + size ≤ length bs
     fits = omega (arith, f.place, step_fits (drop w.at bs) s e, length-drop w.at bs)
 
     on : (m : Nodes) → nest w.records w.held s ≡ m
-        → Turned bs w (onNodes m (λ p. On (record { at = w.at + size; records = w.records + 1; held = p })) (Ends (Unnested w.at)))
+        → Turned bs w (on_nodes m (λ p. On (record { at = w.at + size; records = w.records + 1; held = p })) (Ends (Unnested w.at)))
     on (Open p) g =
         let h : 4 ≤ size = four s in
         (record { place = fits; records = omega (arith, f.records); held = omega (arith, f.held, opens_one w.records w.held s p g) }, omega arith, (λ n. rw (e, g, drop-drop size w.at bs, add-one)))
@@ -129,25 +129,25 @@ module _ (bs : List ℕ) (w : Walk) (n : ℕ) where
 
 -- What was written for sound steps, and anything behind it, reads as those steps and what is behind.
 pub read_back : (n : ℕ) (ss : List Step) (more : List ℕ) → Sounds ss → length (bytes ss ++ more) ≤ n
-    → walkedIn n (bytes ss ++ more) ≡ record { steps = ss ++ (walked more).steps; rest = (walked more).rest }
-unfolding bytes walkedIn
+    → walked_in n (bytes ss ++ more) ≡ record { steps = ss ++ (walked more).steps; rest = (walked more).rest }
+unfolding bytes walked_in
 read_back n [] more h k = rounds n (length more) more k (omega arith)
-read_back zero (s ∷ ss) more h k = absurd (omega (arith, four s, length-append (recordOf s) (bytes ss), length-append (recordOf s ++ bytes ss) more))
+read_back zero (s ∷ ss) more h k = absurd (omega (arith, four s, length-append (record_of s) (bytes ss), length-append (record_of s ++ bytes ss) more))
 read_back (suc n) (s ∷ ss) more h k =
-    let bs : List ℕ = recordOf s ++ (bytes ss ++ more) in
+    let bs : List ℕ = record_of s ++ (bytes ss ++ more) in
     let e : front bs ≡ Sound s = read-record s (bytes ss ++ more) h.0 in
-    let b : behind bs ≡ bytes ss ++ more = behind-step bs s e ∙ drop-append_seam (recordOf s) (bytes ss ++ more) in
+    let b : behind bs ≡ bytes ss ++ more = behind-step bs s e ∙ drop-append_seam (record_of s) (bytes ss ++ more) in
     let l : length (bytes ss ++ more) ≤ n = rw b at (shorter bs s n e (rw append_assoc at k)) in
     rw (append_assoc, e, b, read_back n ss more h.1 l)
 
-pub walked-first : (s : Step) (more : List ℕ) → Sounds (s ∷ []) → walked (recordOf s ++ more) ≡ record { steps = s ∷ (walked more).steps; rest = (walked more).rest }
+pub walked-first : (s : Step) (more : List ℕ) → Sounds (s ∷ []) → walked (record_of s ++ more) ≡ record { steps = s ∷ (walked more).steps; rest = (walked more).rest }
 unfolding bytes
 walked-first s more h =
-    let q : bytes (s ∷ []) ++ more ≡ recordOf s ++ more = ap (λ (l : List ℕ). l ++ more) (append-nil (recordOf s)) in
+    let q : bytes (s ∷ []) ++ more ≡ record_of s ++ more = ap (λ (l : List ℕ). l ++ more) (append-nil (record_of s)) in
     rw q at (read_back (length (bytes (s ∷ []) ++ more)) (s ∷ []) more h (omega arith))
 
 pub reads-steps : (ss : List Step) → Sounds ss → walked (bytes ss) ≡ record { steps = ss; rest = [] }
-unfolding walkedIn
+unfolding walked_in
 reads-steps ss h =
     let q : bytes ss ++ [] ≡ bytes ss = append-nil (bytes ss) in
     rw (q, append-nil) at (read_back (length (bytes ss ++ [])) ss [] h (omega arith))

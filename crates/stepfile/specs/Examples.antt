@@ -2,13 +2,13 @@
 use Rattle.std.specs.Prelude.{ℕ, ◌≡◌, refl, List, [], ◌∷◌, ◌++◌, map, take}
 use Rattle.records.specs.declared.Step.{Step}
 use Rattle.records.specs.declared.Step.TheVariants.{Enter as enter, Leave as leave, Token as token, Error as error, Expected as expected}
-use Rattle.records.specs.Record.{recordOf, bytes}
+use Rattle.records.specs.Record.{record_of, bytes}
 use Rattle.stepfile.specs.declared.Found.{Found}
 use Rattle.stepfile.specs.declared.Found.TheVariants as F
 use Rattle.stepfile.specs.Front.{step_of, front, behind}
 use Rattle.stepfile.specs.Answer.{Numbers, says, refuses}
 use Rattle.stepfile.specs.Nesting.{nest}
-use Rattle.stepfile.specs.File.{ended, walk, fileRead}
+use Rattle.stepfile.specs.File.{ended, walk, file_read}
 
 -- a file, what the whole-file call says of it, what stands at its front, and the rest
 record Row : Type 0 where
@@ -21,7 +21,7 @@ abbrev row : List ℕ → Numbers → Found → List ℕ → Row
 row bs n f r = record { file = bs; said = n; found = f; rest = r }
 
 abbrev got : Row → Row
-got r = row r.file (fileRead r.file) (front r.file) (behind r.file)
+got r = row r.file (file_read r.file) (front r.file) (behind r.file)
 
 -- a file of steps, and a file at whose front no step stands
 abbrev steps : List Step → Numbers → List Row
@@ -33,7 +33,7 @@ faulty bs n f = row bs n f bs ∷ []
 
 -- a file that begins with a step and goes on otherwise
 abbrev goes : Step → List ℕ → Numbers → List Row
-goes s bs n = row (recordOf s ++ bs) n (F.Sound s) bs ∷ []
+goes s bs n = row (record_of s ++ bs) n (F.Sound s) bs ∷ []
 
 -- the listing of docs/RULES.md, section 9, without its first step
 abbrev listed : List Step

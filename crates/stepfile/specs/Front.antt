@@ -1,7 +1,7 @@
 -- What stands at the front of a step file (docs/RULES.md, section 7), and the rest behind it.
 use Rattle.std.specs.Prelude.{ℕ, ◌+◌, ◌*◌, cond, List, eqb, ltb, length, get_or, drop}
 use Rattle.records.specs.declared.Step.TheVariants.{Enter, Leave, Token, Error, Expected}
-use Rattle.records.specs.Record.{recordOf}
+use Rattle.records.specs.Record.{record_of}
 use Rattle.stepfile.specs.declared.Found.{Found}
 use Rattle.stepfile.specs.declared.Found.TheVariants.{Sound, End, Cut, Unsound}
 
@@ -34,7 +34,7 @@ front bs = cond (eqb (length bs) 0) End (cond (ltb (length bs) (4 + two bs 0)) C
 
 -- the bytes that a step takes, and those behind it; without a step nothing is taken
 abbrev pub taken : Found → ℕ
-taken (Sound s) = length (recordOf s)
+taken (Sound s) = length (record_of s)
 taken End = 0
 taken Cut = 0
 taken Unsound = 0

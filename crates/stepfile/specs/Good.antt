@@ -2,7 +2,7 @@
 use Rattle.std.specs.Prelude.{ℕ, ◌+◌, ◌-◌, ◌≤◌, ◌<◌, ◌≡◌, cond, List, [], ◌∷◌, ◌++◌, ltb, length, get_or, take}
 use Rattle.records.specs.declared.Step.{Step}
 use Rattle.records.specs.declared.Step.TheVariants.{Enter, Leave, Token, Error, Expected}
-use Rattle.records.specs.Record.{recordOf, bytes, Sound, Sounds}
+use Rattle.records.specs.Record.{record_of, bytes, Sound, Sounds}
 use Rattle.stepfile.specs.declared.Found.{Found}
 use Rattle.stepfile.specs.declared.Found.TheVariants as F
 use Rattle.stepfile.specs.Front.{two}
@@ -17,8 +17,8 @@ Bytes bs = (i : ℕ) → get_or bs i 0 < 256
 pub data Stands (bs : List ℕ) : Found → Type 0 where
   nothing : bs ≡ [] → Stands bs F.End
   past : 0 < length bs → length bs < 4 + two bs 0 → Stands bs F.Cut
-  step : (s : Step) (more : List ℕ) → Sound s → bs ≡ recordOf s ++ more → Stands bs (F.Sound s)
-  other : 0 < length bs → 4 + two bs 0 ≤ length bs → ((s : Step) (more : List ℕ) → Sound s → bs ≡ recordOf s ++ more → ⊥) → Stands bs F.Unsound
+  step : (s : Step) (more : List ℕ) → Sound s → bs ≡ record_of s ++ more → Stands bs (F.Sound s)
+  other : 0 < length bs → 4 + two bs 0 ≤ length bs → ((s : Step) (more : List ℕ) → Sound s → bs ≡ record_of s ++ more → ⊥) → Stands bs F.Unsound
 
 -- how many nodes some steps enter, and how many they leave: the depth is what the first has above the second
 unfoldable pub enters : List Step → ℕ
@@ -81,8 +81,8 @@ pub record Unsound (bs : List ℕ) (p : ℕ) : Type 0 where
 -- 13: a sound record that is not the first begins at depth zero, or takes the depth below zero; or the file ends without a record, or at a
 -- depth above zero
 pub data Breaks (ss : List Step) (rest : List ℕ) : Type 0 where
-  again : (s : Step) (more : List ℕ) → Sound s → rest ≡ recordOf s ++ more → 0 < length ss → enters ss ≡ leaves ss → Breaks ss rest
-  below : (s : Step) (more : List ℕ) → Sound s → rest ≡ recordOf s ++ more → enters (ss ++ s ∷ []) < leaves (ss ++ s ∷ []) → Breaks ss rest
+  again : (s : Step) (more : List ℕ) → Sound s → rest ≡ record_of s ++ more → 0 < length ss → enters ss ≡ leaves ss → Breaks ss rest
+  below : (s : Step) (more : List ℕ) → Sound s → rest ≡ record_of s ++ more → enters (ss ++ s ∷ []) < leaves (ss ++ s ∷ []) → Breaks ss rest
   none : ss ≡ [] → rest ≡ [] → Breaks ss rest
   inside : rest ≡ [] → leaves ss < enters ss → Breaks ss rest
 
@@ -100,4 +100,4 @@ pub data Verdict (bs : List ℕ) : Numbers → Type 0 where
 -- where the record begins that holds byte n of a file of steps: n itself, where a record begins there
 unfoldable pub holds : List Step → ℕ → ℕ
 holds [] n = 0
-holds (s ∷ ss) n = cond (ltb n (length (recordOf s))) 0 (length (recordOf s) + holds ss (n - length (recordOf s)))
+holds (s ∷ ss) n = cond (ltb n (length (record_of s))) 0 (length (record_of s) + holds ss (n - length (record_of s)))

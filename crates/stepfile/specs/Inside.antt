@@ -1,14 +1,14 @@
 -- What the contracts of the code inside cite.
 use Rattle.std.specs.Prelude.{ℕ, suc, ◌+◌, ◌/◌, ◌%◌, ◌≤◌, ◌<◌, ◌≡◌, List, length, drop}
 use Rattle.records.specs.declared.Step.{Step}
-use Rattle.records.specs.Record.{recordOf}
+use Rattle.records.specs.Record.{record_of}
 use Rattle.stepfile.specs.declared.Answer.TheVariants.{Unnested}
 use Rattle.stepfile.specs.declared.Walk.{Walk}
 use Rattle.stepfile.specs.declared.Turn.{Turn}
 use Rattle.stepfile.specs.declared.Turn.TheVariants.{On, Ends}
 use Rattle.stepfile.specs.Front.{two}
 use Rattle.stepfile.specs.Answer.{Numbers, numbers}
-use Rattle.stepfile.specs.Nesting.{nest, onNodes}
+use Rattle.stepfile.specs.Nesting.{nest, on_nodes}
 use Rattle.stepfile.specs.File.{walk}
 
 -- the head of the record at a place in one number: the payload's length, and 65,536 times the record kind
@@ -25,8 +25,8 @@ pub record Fits (bs : List ℕ) (w : Walk) : Type 0 where
 -- a walk past a step
 unfoldable pub passed : Walk → Step → Turn
 passed w s =
-    onNodes (nest w.records w.held s)
-    (λ n. On (record { at = w.at + length (recordOf s); records = w.records + 1; held = n }))
+    on_nodes (nest w.records w.held s)
+    (λ n. On (record { at = w.at + length (record_of s); records = w.records + 1; held = n }))
     (Ends (Unnested w.at))
 
 -- what is left of a file at a walk

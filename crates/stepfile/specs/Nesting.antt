@@ -20,13 +20,13 @@ nest zero o s = after o s
 nest (suc r) zero s = Fault
 nest (suc r) (suc o) s = after (suc o) s
 
-abbrev pub onNodes : {A : Type 0} → Nodes → (ℕ → A) → A → A
-onNodes (Open o) go fault = go o
-onNodes Fault go fault = fault
+abbrev pub on_nodes : {A : Type 0} → Nodes → (ℕ → A) → A → A
+on_nodes (Open o) go fault = go o
+on_nodes Fault go fault = fault
 
 -- whether steps with r before them and o nodes open go on so, and end with none open and one step at least
 unfoldable pub nests : ℕ → ℕ → List Step → Bool
 nests zero o [] = false
 nests (suc r) zero [] = true
 nests (suc r) (suc o) [] = false
-nests r o (s ∷ ss) = onNodes (nest r o s) (λ p. nests (suc r) p ss) false
+nests r o (s ∷ ss) = on_nodes (nest r o s) (λ p. nests (suc r) p ss) false

@@ -1,11 +1,11 @@
 // The reader of step files (docs/RULES.md, section 7): what stands at the front of a file, with the rest of it, and whether a whole file is
 // good. It writes nothing and takes files of any length.
 ghost use Rattle.std.specs.Prelude.{◌≡◌, ◌+◌, ◌^◌, ◌≤◌, ◌<◌, length, drop};
-ghost use Rattle.records.specs.Record.{recordOf};
+ghost use Rattle.records.specs.Record.{record_of};
 ghost use Rattle.stepfile.specs.Front.{two, step_of, front, taken, behind};
 ghost use Rattle.stepfile.specs.Answer.{numbers, number_of};
 ghost use Rattle.stepfile.specs.Nesting.{after, nest};
-ghost use Rattle.stepfile.specs.File.{ended, fileRead};
+ghost use Rattle.stepfile.specs.File.{ended, file_read};
 ghost use Rattle.stepfile.specs.Inside.{Head, Fits, passed, Turned};
 
 use records::{ENTER, ERROR, EXPECTED, LEAVE, Step, TOKEN, size};
@@ -290,7 +290,7 @@ fn ended(w: Walk) -> Answer
 fn passed(w: Walk, s: Step) -> Turn
     requires held_bound { w.held + 1 < 2 ^ 64 }
     requires records_bound { w.records + 1 < 2 ^ 64 }
-    requires s_bound { w.at + length (recordOf s) < 2 ^ 64 }
+    requires s_bound { w.at + length (record_of s) < 2 ^ 64 }
     ensures { result ≡ passed w s }
 {
     match nest(w.records, w.held, s) {
@@ -319,7 +319,7 @@ fn next(file: &[u8], w: Walk) -> Turn
 
 // Whether a whole file is good: record by record, the first faulty one wins.
 pub fn read_file(file: &[u8]) -> Answer
-    ensures { numbers result ≡ fileRead file.now }
+    ensures { numbers result ≡ file_read file.now }
 {
     let mut w = Walk {
         at: 0,

@@ -100,7 +100,7 @@ pub fn literal(kinds: &[u16], joints: &[u64], room: &mut [u32], p: Parser) -> Pa
 // The modifier `inv`.
 pub fn inv_modifier(kinds: &[u16], joints: &[u64], room: &mut [u32], p: Parser) -> Parser
     requires { Fit p }
-    ensures { Does (env kinds.now joints.now) acts.invModifier (view p room.old) tt (view result room.new) }
+    ensures { Does (env kinds.now joints.now) acts.inv_modifier (view p room.old) tt (view result room.new) }
 {
     let s = p.start(room);
     let p1 = s.p;
@@ -123,7 +123,7 @@ pub fn inv_modifier(kinds: &[u16], joints: &[u64], room: &mut [u32], p: Parser) 
 // The error of a modifier that must have an argument.
 pub fn no_argument(room: &mut [u32], p: Parser, kw: u16) -> Parser
     requires { Fit p }
-    ensures { Steps (acts.noArgument kw) (view p room.old) tt (view result room.new) }
+    ensures { Steps (acts.no_argument kw) (view p room.old) tt (view result room.new) }
 {
     if kw == k::POW_KW {
         return p.error(room, say::EXPECTING_ARGUMENT_TO_POW_GATE_MODIFIER, 0);
@@ -134,7 +134,7 @@ pub fn no_argument(room: &mut [u32], p: Parser, kw: u16) -> Parser
 // A comma where the first element of a tuple is to stand.
 pub fn tuple_comma(kinds: &[u16], joints: &[u64], room: &mut [u32], p: Parser) -> Told
     requires { Fit p }
-    ensures { Does (env kinds.now joints.now) acts.tupleComma (view p room.old) result.yes (view result.p room.new) }
+    ensures { Does (env kinds.now joints.now) acts.tuple_comma (view p room.old) result.yes (view result.p room.new) }
 {
     let t = p.eat(kinds, joints, room, k::COMMA);
     let p1 = t.p;
@@ -148,7 +148,7 @@ pub fn tuple_comma(kinds: &[u16], joints: &[u64], room: &mut [u32], p: Parser) -
 // After an element of a tuple: whether there was a comma in it.
 pub fn tuple_next(kinds: &[u16], joints: &[u64], room: &mut [u32], p: Parser, comma: bool) -> Told
     requires { Fit p }
-    ensures { Does (env kinds.now joints.now) (acts.tupleNext comma) (view p room.old) result.yes (view result.p room.new) }
+    ensures { Does (env kinds.now joints.now) (acts.tuple_next comma) (view p room.old) result.yes (view result.p room.new) }
 {
     if p.at(kinds, joints, k::R_PAREN) {
         return Told { p, yes: comma };
@@ -168,7 +168,7 @@ pub fn tuple_end(
     comma: bool,
 ) -> Done
     requires { Fit p }
-    ensures { Does (env kinds.now joints.now) (acts.tupleEnd m saw comma) (view p room.old) result.cm (view result.p room.new) }
+    ensures { Does (env kinds.now joints.now) (acts.tuple_end m saw comma) (view p room.old) result.cm (view result.p room.new) }
 {
     let t = p.expect(kinds, joints, room, k::R_PAREN);
     let p1 = t.p;
@@ -176,7 +176,7 @@ pub fn tuple_end(
 }
 
 fn tuple_kind(saw: bool, comma: bool) -> u16
-    ensures { result ≡ acts.tupleKind saw comma }
+    ensures { result ≡ acts.tuple_kind saw comma }
 {
     if saw {
         if comma {
@@ -196,7 +196,7 @@ pub fn array_next(
     semi: bool,
 ) -> Follows
     requires { Fit p }
-    ensures { Does (env kinds.now joints.now) (acts.arrayNext first semi) (view p room.old) result.next (view result.p room.new) }
+    ensures { Does (env kinds.now joints.now) (acts.array_next first semi) (view p room.old) result.next (view result.p room.new) }
 {
     let t = first_semicolon(kinds, joints, room, p, first);
     let p1 = t.p;
@@ -235,7 +235,7 @@ pub fn array_next(
 // A semicolon, which may follow the first element alone.
 fn first_semicolon(kinds: &[u16], joints: &[u64], room: &mut [u32], p: Parser, first: bool) -> Told
     requires { Fit p }
-    ensures { Does (env kinds.now joints.now) (acts.firstSemicolon first) (view p room.old) result.yes (view result.p room.new) }
+    ensures { Does (env kinds.now joints.now) (acts.first_semicolon first) (view p room.old) result.yes (view result.p room.new) }
 {
     if first {
         return p.eat(kinds, joints, room, k::SEMICOLON);
@@ -245,7 +245,7 @@ fn first_semicolon(kinds: &[u16], joints: &[u64], room: &mut [u32], p: Parser, f
 
 pub fn array_end(kinds: &[u16], joints: &[u64], room: &mut [u32], p: Parser, m: u32) -> Done
     requires { Fit p }
-    ensures { Does (env kinds.now joints.now) (acts.arrayEnd m) (view p room.old) result.cm (view result.p room.new) }
+    ensures { Does (env kinds.now joints.now) (acts.array_end m) (view p room.old) result.cm (view result.p room.new) }
 {
     let t = p.expect(kinds, joints, room, k::R_BRACK);
     let p1 = t.p;

@@ -43,7 +43,7 @@ pub fn marker(room: &mut [u32], p: Parser, given: Mark) -> Started
 
 pub fn type_name(kinds: &[u16], joints: &[u64], room: &mut [u32], p: Parser) -> Parser
     requires { Fit p }
-    ensures { Does (env kinds.now joints.now) acts.typeName (view p room.old) tt (view result room.new) }
+    ensures { Does (env kinds.now joints.now) acts.type_name (view p room.old) tt (view result room.new) }
 {
     let l = p.current(kinds, joints);
     let p1 = l.p;
@@ -58,7 +58,7 @@ pub fn type_name(kinds: &[u16], joints: &[u64], room: &mut [u32], p: Parser) -> 
 // Whether no expression begins here: neither a kind that begins one nor a cast.
 pub fn lacks_expr(kinds: &[u16], joints: &[u64], p: Parser) -> Told
     requires { Fit p }
-    ensures { Peeks (env kinds.now joints.now) acts.lacksExpr p result.yes result.p }
+    ensures { Peeks (env kinds.now joints.now) acts.lacks_expr p result.yes result.p }
 {
     let t = p.at_ts(kinds, joints, Fixed::ExprFirst);
     let p1 = t.p;
@@ -81,7 +81,7 @@ pub fn lacks_expr(kinds: &[u16], joints: &[u64], p: Parser) -> Told
 // Whether a cast begins here: a classical type, and `(` or `[`.
 fn cast_ahead(kinds: &[u16], joints: &[u64], p: Parser) -> Told
     requires { Fit p }
-    ensures { Peeks (env kinds.now joints.now) acts.castAhead p result.yes result.p }
+    ensures { Peeks (env kinds.now joints.now) acts.cast_ahead p result.yes result.p }
 {
     let l = p.current(kinds, joints);
     let p1 = l.p;
@@ -104,7 +104,7 @@ fn cast_ahead(kinds: &[u16], joints: &[u64], p: Parser) -> Told
 // Whether a statement lacks an expression: stmt asks in another order than expr_bp.
 pub fn stmt_lacks_expr(kinds: &[u16], joints: &[u64], p: Parser) -> Told
     requires { Fit p }
-    ensures { Peeks (env kinds.now joints.now) acts.stmtLacksExpr p result.yes result.p }
+    ensures { Peeks (env kinds.now joints.now) acts.stmt_lacks_expr p result.yes result.p }
 {
     let c = cast_ahead(kinds, joints, p);
     let p1 = c.p;
@@ -122,7 +122,7 @@ pub fn stmt_lacks_expr(kinds: &[u16], joints: &[u64], p: Parser) -> Told
 // The error of a missing semicolon, which a block needs not have.
 fn no_semicolon(room: &mut [u32], p: Parser, block: bool, semi: bool) -> Parser
     requires { Fit p }
-    ensures { Steps (acts.noSemicolon block semi) (view p room.old) tt (view result room.new) }
+    ensures { Steps (acts.no_semicolon block semi) (view p room.old) tt (view result room.new) }
 {
     if block {
         return p;
@@ -143,7 +143,7 @@ pub fn stmt_end(
     block: bool,
 ) -> Parser
     requires { Fit p }
-    ensures { Does (env kinds.now joints.now) (acts.stmtEnd cm block) (view p room.old) tt (view result room.new) }
+    ensures { Does (env kinds.now joints.now) (acts.stmt_end cm block) (view p room.old) tt (view result room.new) }
 {
     if cm.kind == k::ASSIGNMENT_STMT {
         return p;
@@ -163,7 +163,7 @@ pub fn stmt_end(
 // The error of an assignment that is no statement.
 fn no_assignment(room: &mut [u32], p: Parser, prefer: bool) -> Parser
     requires { Fit p }
-    ensures { Steps (acts.noAssignment prefer) (view p room.old) tt (view result room.new) }
+    ensures { Steps (acts.no_assignment prefer) (view p room.old) tt (view result room.new) }
 {
     if prefer {
         return p;
@@ -199,7 +199,7 @@ pub fn close_op(
     m: u32,
 ) -> Done
     requires { Fit p }
-    ensures { Does (env kinds.now joints.now) (acts.closeOp prefer before op m) (view p room.old) result.cm (view result.p room.new) }
+    ensures { Does (env kinds.now joints.now) (acts.close_op prefer before op m) (view p room.old) result.cm (view result.p room.new) }
 {
     if op == k::EQ {
         let p1 = no_assignment(room, p, prefer);
@@ -216,7 +216,7 @@ pub fn close_op(
 // The error of an array's base type.
 pub fn array_base(kinds: &[u16], joints: &[u64], room: &mut [u32], p: Parser) -> Parser
     requires { Fit p }
-    ensures { Does (env kinds.now joints.now) acts.arrayBase (view p room.old) tt (view result room.new) }
+    ensures { Does (env kinds.now joints.now) acts.array_base (view p room.old) tt (view result room.new) }
 {
     let l = p.current(kinds, joints);
     let p1 = l.p;
@@ -229,7 +229,7 @@ pub fn array_base(kinds: &[u16], joints: &[u64], room: &mut [u32], p: Parser) ->
 // The error of a literal in a designator that is no integer.
 pub fn literal_designator(kinds: &[u16], joints: &[u64], room: &mut [u32], p: Parser) -> Parser
     requires { Fit p }
-    ensures { Does (env kinds.now joints.now) acts.literalDesignator (view p room.old) tt (view result room.new) }
+    ensures { Does (env kinds.now joints.now) acts.literal_designator (view p room.old) tt (view result room.new) }
 {
     let l = p.current(kinds, joints);
     let p1 = l.p;
@@ -265,7 +265,7 @@ pub fn args_end(
     m1: u32,
 ) -> Parser
     requires { Fit p }
-    ensures { Does (env kinds.now joints.now) (acts.argsEnd m m1) (view p room.old) tt (view result room.new) }
+    ensures { Does (env kinds.now joints.now) (acts.args_end m m1) (view p room.old) tt (view result room.new) }
 {
     let t = p.expect(kinds, joints, room, k::R_PAREN);
     let p1 = t.p;

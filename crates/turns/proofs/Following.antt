@@ -9,9 +9,9 @@ use lib.ListN.{length, get_or, take, drop, set, length-set, length-append, lengt
 use lib.Seq.{get_or-drop, drop-drop, take-add, drop-set-lt, take-suc-set}
 use Rattle.event.specs.declared.Event.{Event}
 use Rattle.event.specs.declared.Event.TheVariants.{Start, Finish, Token, Error, NoEvent}
-use Rattle.event.specs.Event.{tombstone, isStart, distance}
+use Rattle.event.specs.Event.{tombstone, is_start, distance}
 use Rattle.records.specs.declared.Step.{Step}
-use Rattle.records.specs.Record.{stepBytes, bytes, over, Wrote}
+use Rattle.records.specs.Record.{step_bytes, bytes, over, Wrote}
 use Rattle.own.specs.Own.{enters, own, cost}
 use Rattle.turns.specs.Process.{Placed, placed, Followed, follow, entered, chain, steps_of, file}
 use Rattle.records.proofs.Writes.{bytes-append, over_none, over-back, length_over}
@@ -42,7 +42,7 @@ pub record Hop (p : ℕ) (es : List Event) (d : ℕ) (f r : Followed) : Type 0 w
   pub here : file (entered f.parents) ≡ file (entered r.parents) ++ bytes (own (get_or es d (NoEvent 0 0)))
   pub left : f.left ≡ take d es ++ tombstone ∷ r.left
   pub sound : r.panics ≡ false
-  pub start : isStart (get_or es d (NoEvent 0 0)) ≡ true
+  pub start : is_start (get_or es d (NoEvent 0 0)) ≡ true
 
 pub hop : (p : ℕ) (es : List Event) (d : ℕ) → (follow p es (suc d)).panics ≡ false
     → Hop p es d (follow p es (suc d)) (follow (suc p + d) (drop (suc d) es) (distance (get_or es d (NoEvent 0 0))))
@@ -73,7 +73,7 @@ pub record Hops (es : List Event) (p q : ℕ) : Type 0 where
   pub here : pending es p q ≡ pending es (p + q) (distance (get_or es (p + q) (NoEvent 0 0))) ++ bytes (own (get_or es (p + q) (NoEvent 0 0)))
   pub left : cleared es p q ≡ take (p + q) es ++ tombstone ∷ (chain es (p + q) (distance (get_or es (p + q) (NoEvent 0 0)))).left
   pub sound : (chain es (p + q) (distance (get_or es (p + q) (NoEvent 0 0)))).panics ≡ false
-  pub start : isStart (get_or es (p + q) (NoEvent 0 0)) ≡ true
+  pub start : is_start (get_or es (p + q) (NoEvent 0 0)) ≡ true
 
 pub hops : (es : List Event) (p q : ℕ) → p < length es → (q ≡ 0 → ⊥) → (chain es p q).panics ≡ false → Hops es p q
 hops es p zero h n s = absurd (n refl)
@@ -110,7 +110,7 @@ cleared-none es p q z = rw (z, follow-none) (take-append-drop (suc p) es)
 pub record Sizing (es : List Event) (i d p q size : ℕ) : Type 0 where
   pub inside : p < length es
   pub sound : (chain es p q).panics ≡ false
-  pub small : size ≤ stepBytes * p
+  pub small : size ≤ step_bytes * p
   pub sum : size + length (pending es p q) ≡ length (pending es i d)
 
 module _ (es : List Event) (i d p q size : ℕ) (S : Sizing es i d p q size) where

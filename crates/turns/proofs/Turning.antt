@@ -15,7 +15,7 @@ use Rattle.own.specs.Own.{own, cost}
 use Rattle.own.specs.Inside.{Laid}
 use Rattle.records.proofs.Writes.{wrote_then}
 use Rattle.own.proofs.Wide.{laid_then, laid-wrote}
-use Rattle.turns.specs.Process.{Followed, follow, entered, turn, chain, turnAt, file}
+use Rattle.turns.specs.Process.{Followed, follow, entered, turn, chain, turn_at, file}
 use Rattle.turns.proofs.Following.{follow-none, entered-file, pending, pending-none, cleared, cleared-none, Hops, hops, chain-cleared, cleared-here}
 
 -- a turn that does not panic: the chain's steps, and the event's own behind them
@@ -40,8 +40,8 @@ turn-says p e es s a b q = true≢false (rw q at s)
 -- its chain is followed by d, and its own step is written behind the chain's.
 pub record Turning (es : List Event) (i at size : ℕ) (out : List ℕ) (es₁ : List Event) (d : ℕ) : Type 0 where
   pub inside : i < length es
-  pub sound : (turnAt es i).panics ≡ false
-  pub room : at + length (file (turnAt es i).steps) ≤ size
+  pub sound : (turn_at es i).panics ≡ false
+  pub room : at + length (file (turn_at es i).steps) ≤ size
   pub fits : size ≤ length out
   pub cleared : es₁ ≡ set es i tombstone
   pub far : d ≡ distance (get_or es i (NoEvent 0 0))
@@ -56,36 +56,36 @@ module _ {es : List Event} {i at size : ℕ} {out : List ℕ} {es₁ : List Even
   pub chain-sound : (chain es₁ i d).panics ≡ false
   chain-sound = ap (λ (f : Followed). f.panics) same ∙ view.sound
 
-  turn-file : file (turnAt es i).steps ≡ pending es₁ i d ++ bytes (own (get_or es i (NoEvent 0 0)))
+  turn-file : file (turn_at es i).steps ≡ pending es₁ i d ++ bytes (own (get_or es i (NoEvent 0 0)))
   turn-file = view.steps ∙ rw same
 
   pub turn-room : at + (length (pending es₁ i d) + cost (get_or es i (NoEvent 0 0))) ≤ size
   turn-room = omega (arith, T.room, simp length-append at (ap length turn-file))
 
   pub turn-wrote : (n q : ℕ) (o₁ o₂ : List ℕ) → n ≡ length (pending es₁ i d) → o₁ ≡ over out at (pending es₁ i d)
-      → Wrote o₁ (at + n) (bytes (own (get_or es i (NoEvent 0 0)))) q o₂ → Laid out at (file (turnAt es i).steps) size q o₂
+      → Wrote o₁ (at + n) (bytes (own (get_or es i (NoEvent 0 0)))) q o₂ → Laid out at (file (turn_at es i).steps) size q o₂
   turn-wrote n q o₁ o₂ z e w =
       laid-wrote out at _ size q o₂ T.room T.fits
       (rw turn-file (wrote_then out at _ _ (at + n) q o₁ o₂ (record { place = rw z; bytes = e }) w (omega (arith, turn-room, T.fits))))
 
-  pub turn-left : (es₂ : List Event) → es₂ ≡ cleared es₁ i d → es₂ ≡ take i es ++ tombstone ∷ (turnAt es i).left
+  pub turn-left : (es₂ : List Event) → es₂ ≡ cleared es₁ i d → es₂ ≡ take i es ++ tombstone ∷ (turn_at es i).left
   turn-left es₂ e = rw (view.left, e, T.cleared, T.far) (cleared-here es i (distance (get_or es i (NoEvent 0 0))) T.inside)
 
   -- with no distance, the event's own step alone
   module _ (z : d ≡ 0) where
-    alone-file : file (turnAt es i).steps ≡ bytes (own (get_or es i (NoEvent 0 0)))
+    alone-file : file (turn_at es i).steps ≡ bytes (own (get_or es i (NoEvent 0 0)))
     alone-file = turn-file ∙ rw (pending-none es₁ i d z)
 
     pub alone-room : at + cost (get_or es i (NoEvent 0 0)) ≤ size
     alone-room = omega (arith, T.room, ap length alone-file)
 
-    pub alone-laid : (q : ℕ) (o : List ℕ) → Laid out at (bytes (own (get_or es i (NoEvent 0 0)))) size q o → Laid out at (file (turnAt es i).steps) size q o
+    pub alone-laid : (q : ℕ) (o : List ℕ) → Laid out at (bytes (own (get_or es i (NoEvent 0 0)))) size q o → Laid out at (file (turn_at es i).steps) size q o
     alone-laid q o a = rw alone-file a
 
-    pub alone-wrote : (q : ℕ) (o : List ℕ) → Wrote out at (bytes (own (get_or es i (NoEvent 0 0)))) q o → Laid out at (file (turnAt es i).steps) size q o
+    pub alone-wrote : (q : ℕ) (o : List ℕ) → Wrote out at (bytes (own (get_or es i (NoEvent 0 0)))) q o → Laid out at (file (turn_at es i).steps) size q o
     alone-wrote q o w = alone-laid q o (laid-wrote out at _ size q o alone-room T.fits w)
 
-    pub alone-left : es₁ ≡ take i es ++ tombstone ∷ (turnAt es i).left
+    pub alone-left : es₁ ≡ take i es ++ tombstone ∷ (turn_at es i).left
     alone-left = turn-left es₁ (sym (cleared-none es₁ i d z))
 
   -- a distance, and the start that it leads to
@@ -96,8 +96,8 @@ module _ {es : List Event} {i at size : ℕ} {out : List ℕ} {es₁ : List Even
     -- with no distance there, that start's step and then the event's own
     module _ (z : distance (get_or es₁ (i + d) (NoEvent 0 0)) ≡ 0) where
       pub pair-laid : (p q : ℕ) (m o : List ℕ) → Laid out at (bytes (own (get_or es₁ (i + d) (NoEvent 0 0)))) size p m
-          → Laid m p (bytes (own (get_or es i (NoEvent 0 0)))) size q o → Laid out at (file (turnAt es i).steps) size q o
+          → Laid m p (bytes (own (get_or es i (NoEvent 0 0)))) size q o → Laid out at (file (turn_at es i).steps) size q o
       pair-laid p q m o a b = rw (turn-file, led.here, pending-none es₁ (i + d) _ z) (laid_then out at _ size p m _ q o a b)
 
-      pub pair_left : (es₂ : List Event) → es₂ ≡ set es₁ (i + d) tombstone → es₂ ≡ take i es ++ tombstone ∷ (turnAt es i).left
+      pub pair_left : (es₂ : List Event) → es₂ ≡ set es₁ (i + d) tombstone → es₂ ≡ take i es ++ tombstone ∷ (turn_at es i).left
       pair_left es₂ e = turn-left es₂ (e ∙ set_split es₁ (i + d) tombstone led.inside ∙ sym (led.left ∙ rw (z, follow-none)))

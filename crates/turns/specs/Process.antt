@@ -90,8 +90,8 @@ process es = turns (length es) 0 es
 abbrev pub chain : List Event → ℕ → ℕ → Followed
 chain es i d = follow (suc i) (drop (suc i) es) d
 
-abbrev pub turnAt : List Event → ℕ → Run
-turnAt es i = turn i (get_or es i (NoEvent 0 0)) (drop (suc i) es)
+abbrev pub turn_at : List Event → ℕ → Run
+turn_at es i = turn i (get_or es i (NoEvent 0 0)) (drop (suc i) es)
 
 -- the steps without their places, and their step file
 abbrev pub steps_of : List Placed → List Step

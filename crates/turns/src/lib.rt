@@ -1,18 +1,18 @@
 // A turn of the loop in `process` of event.rs: the chain that an event's distance leads to, and the event's own step.
 ghost use Rattle.std.specs.Prelude.{◌≡◌, false, ◌∷◌, ◌++◌, suc, ◌+◌, ◌/◌, ◌<◌, ◌≤◌, length, get_or, take};
-ghost use Rattle.event.specs.Event.{eventWords, eventsOf, none, distance, tombstone};
+ghost use Rattle.event.specs.Event.{event_words, events_of, none, distance, tombstone};
 ghost use Rattle.records.specs.Record.{over};
 ghost use Rattle.own.specs.Inside.{Laid};
-ghost use Rattle.turns.specs.Process.{chain, entered, turnAt, file};
+ghost use Rattle.turns.specs.Process.{chain, entered, turn_at, file};
 
 use event::{ERROR, EVENT_WORDS, Event, clear, decode, distance, event_at};
 use own::{cost, leads, put_own, put_wide};
 
 // The bytes of the enters that distance d from event i leads to.
 fn chain_size(words: &[u32], i: usize, d: u32) -> usize
-    requires i_in_bounds { i < length words.now / eventWords }
-    requires d_value { (chain (eventsOf words.now) i d).panics ≡ false }
-    ensures { result ≡ length (file (entered (chain (eventsOf words.now) i d).parents)) }
+    requires i_in_bounds { i < length words.now / event_words }
+    requires d_value { (chain (events_of words.now) i d).panics ≡ false }
+    ensures { result ≡ length (file (entered (chain (events_of words.now) i d).parents)) }
 {
     let mut p = i;
     let mut q = d;
@@ -28,12 +28,12 @@ fn chain_size(words: &[u32], i: usize, d: u32) -> usize
 
 // Writes those enters, the first met last: from the end of their bytes to the front. Each visited start becomes a tombstone.
 fn put_chain(words: &mut [u32], out: &mut [u8], i: usize, d: u32, at: usize, size: usize)
-    requires i_in_bounds { i < length words.old / eventWords }
-    requires d_value { (chain (eventsOf words.old) i d).panics ≡ false }
-    requires size_value { size ≡ length (file (entered (chain (eventsOf words.old) i d).parents)) }
+    requires i_in_bounds { i < length words.old / event_words }
+    requires d_value { (chain (events_of words.old) i d).panics ≡ false }
+    requires size_value { size ≡ length (file (entered (chain (events_of words.old) i d).parents)) }
     requires size_in_bounds { at + size ≤ length out.old }
-    ensures words_after { eventsOf words.new ≡ take (suc i) (eventsOf words.old) ++ (chain (eventsOf words.old) i d).left }
-    ensures out_after { out.new ≡ over out.old at (file (entered (chain (eventsOf words.old) i d).parents)) }
+    ensures words_after { events_of words.new ≡ take (suc i) (events_of words.old) ++ (chain (events_of words.old) i d).left }
+    ensures out_after { out.new ≡ over out.old at (file (entered (chain (events_of words.old) i d).parents)) }
 {
     let mut p = i;
     let mut q = d;
@@ -50,13 +50,13 @@ fn put_chain(words: &mut [u32], out: &mut [u8], i: usize, d: u32, at: usize, siz
 
 // The turn at event i, which has a distance. Most chains are one start: its record and the event's are then a wide write each.
 fn turn_led(words: &mut [u32], out: &mut [u8], size: usize, i: usize, at: usize) -> usize
-    requires i_in_bounds { i < length words.old / eventWords }
-    requires i_value { (turnAt (eventsOf words.old) i).panics ≡ false }
-    requires i_bound { at + length (file (turnAt (eventsOf words.old) i).steps) ≤ size }
+    requires i_in_bounds { i < length words.old / event_words }
+    requires i_value { (turn_at (events_of words.old) i).panics ≡ false }
+    requires i_bound { at + length (file (turn_at (events_of words.old) i).steps) ≤ size }
     requires size_in_bounds { size ≤ length out.old }
-    requires fact { distance (get_or (eventsOf words.old) i none) ≡ 0 → ⊥ }
-    ensures laid { Laid out.old at (file (turnAt (eventsOf words.old) i).steps) size result out.new }
-    ensures words_after { eventsOf words.new ≡ take i (eventsOf words.old) ++ tombstone ∷ (turnAt (eventsOf words.old) i).left }
+    requires fact { distance (get_or (events_of words.old) i none) ≡ 0 → ⊥ }
+    ensures laid { Laid out.old at (file (turn_at (events_of words.old) i).steps) size result out.new }
+    ensures words_after { events_of words.new ≡ take i (events_of words.old) ++ tombstone ∷ (turn_at (events_of words.old) i).left }
 {
     let a = words[EVENT_WORDS * i];
     let d = words[EVENT_WORDS * i + 1];
@@ -77,12 +77,12 @@ fn turn_led(words: &mut [u32], out: &mut [u8], size: usize, i: usize, at: usize)
 
 // The turn at event i: its steps at a place, and the place past them. The file ends at `size`, and nothing past it is written.
 pub fn turn(words: &mut [u32], out: &mut [u8], size: usize, i: usize, at: usize) -> usize
-    requires i_in_bounds { i < length words.old / eventWords }
-    requires i_value { (turnAt (eventsOf words.old) i).panics ≡ false }
-    requires i_bound { at + length (file (turnAt (eventsOf words.old) i).steps) ≤ size }
+    requires i_in_bounds { i < length words.old / event_words }
+    requires i_value { (turn_at (events_of words.old) i).panics ≡ false }
+    requires i_bound { at + length (file (turn_at (events_of words.old) i).steps) ≤ size }
     requires size_in_bounds { size ≤ length out.old }
-    ensures laid { Laid out.old at (file (turnAt (eventsOf words.old) i).steps) size result out.new }
-    ensures words_after { eventsOf words.new ≡ take i (eventsOf words.old) ++ tombstone ∷ (turnAt (eventsOf words.old) i).left }
+    ensures laid { Laid out.old at (file (turn_at (events_of words.old) i).steps) size result out.new }
+    ensures words_after { events_of words.new ≡ take i (events_of words.old) ++ tombstone ∷ (turn_at (events_of words.old) i).left }
 {
     let a = words[EVENT_WORDS * i];
     let b = words[EVENT_WORDS * i + 1];

@@ -2,7 +2,7 @@
 use native.Mathlib.Omega.{arith}
 use mathlib.Core.Path.{ap, ◌∙◌}
 use lib.ListN.{set}
-use Rattle.event.specs.Event.{eventsOf, tombstone}
+use Rattle.event.specs.Event.{events_of, tombstone}
 use Rattle.event.proofs.Encoding.{decode-encode}
 use Rattle.event.proofs.Rooms.{events-stored}
 use borrow.Author.Rules.{rules}
@@ -16,7 +16,7 @@ same_length : tie.Need-same-length
 same_length c = search rules
 
 returns : tie.Need-returns
-returns c = let s = c.before.before.before.before.before in ap eventsOf c.before.before.store.ensures ∙ events-stored s.args.words.now s.args.i tombstone s.requires ∙ ap (set (eventsOf s.args.words.now) s.args.i) (decode-encode tombstone (omega arith))
+returns c = let s = c.before.before.before.before.before in ap events_of c.before.before.store.ensures ∙ events-stored s.args.words.now s.args.i tombstone s.requires ∙ ap (set (events_of s.args.words.now) s.args.i) (decode-encode tombstone (omega arith))
 
 pub clear_spec : {M : Type 1} → statement M
 clear_spec = tie.close (tie.spec store-requires same_length returns)

@@ -2,7 +2,7 @@
 -- Assumes nothing.
 use borrow.Author.Tests.{eq-eqb, ne_eqb, le-leb, lt-leb, lt-ltb, le-ltb}
 use borrow.Author.Rules.{rules}
-use Rattle.event.specs.Event.{decode, errorOf}
+use Rattle.event.specs.Event.{decode, error_of}
 use Rattle.event.proofs.decode.Statement.{statement}
 use Rattle.event.proofs.decode.Tie as tie
 
@@ -52,7 +52,7 @@ cast-t15 : tie.Need-overflow-cast-t15
 cast-t15 c = search rules
 
 returns-8 : tie.Need-returns-8
-unfolding decode errorOf
+unfolding decode error_of
 returns-8 c =
     simp (ne_eqb _ _ c.before.before.before.before.if1.false, ne_eqb _ _ c.before.before.before.if2.false, ne_eqb _ _ c.before.before.if5.false, eq-eqb _ _ c.before.if8.true, eq-eqb _ _ c.if9.true, lt-ltb _ _ c.before.before.before.before.before.ranges.b.fits)
 
@@ -60,12 +60,12 @@ cast-t16 : tie.Need-overflow-cast-t16
 cast-t16 c = search rules
 
 returns-9 : tie.Need-returns-9
-unfolding decode errorOf
+unfolding decode error_of
 returns-9 c =
     simp (ne_eqb _ _ c.before.before.before.before.before.if1.false, ne_eqb _ _ c.before.before.before.before.if2.false, ne_eqb _ _ c.before.before.before.if5.false, eq-eqb _ _ c.before.before.if8.true, ne_eqb _ _ c.before.if9.false, lt-ltb _ _ c.if10.true)
 
 returns-10 : tie.Need-returns-10
-unfolding decode errorOf
+unfolding decode error_of
 returns-10 c =
     simp (ne_eqb _ _ c.before.before.before.before.before.if1.false, ne_eqb _ _ c.before.before.before.before.if2.false, ne_eqb _ _ c.before.before.before.if5.false, eq-eqb _ _ c.before.before.if8.true, ne_eqb _ _ c.before.if9.false, le-ltb _ _ c.if10.false)
 

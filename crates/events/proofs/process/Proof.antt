@@ -5,14 +5,14 @@ use native.Mathlib.Omega.{arith}
 use native.Mathlib.Numerals.{add-one}
 use mathlib.Core.Path.{◌≡◌, refl, ◌∙◌}
 use lib.ListN.{length}
-use Rattle.event.specs.Event.{eventsOf}
+use Rattle.event.specs.Event.{events_of}
 use Rattle.event.proofs.Rooms.{length-events}
 use Rattle.events.proofs.Running.{Running, begin, here-sound, here-room, onward, done, words_left}
 use Rattle.events.proofs.process.Statement.{statement}
 use Rattle.events.proofs.process.Tie as tie
 
 abbrev invariant-loop : tie.invariant-loop
-invariant-loop words₀ out₀ size n i₀ at₀ words out i at = (length words ≡ length words₀) × Running (eventsOf words₀) out₀ n size (eventsOf words) out i at
+invariant-loop words₀ out₀ size n i₀ at₀ words out i at = (length words ≡ length words₀) × Running (events_of words₀) out₀ n size (events_of words) out i at
 
 abbrev decreases-loop : tie.decreases-loop
 decreases-loop words₀ out₀ size n i₀ at₀ words out i at = n - i

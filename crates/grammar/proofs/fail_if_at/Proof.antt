@@ -15,7 +15,7 @@ same_length : tie.Need-same-length
 same_length c = c.before.before.error.auto.1.0
 
 returns : tie.Need-returns
-unfolding G.failIfAt
+unfolding G.fail_if_at
 returns c =
     let error = c.before.before in
     let if1 = error.before.before in
@@ -25,7 +25,7 @@ returns c =
     (any _ _ _ error.error.ensures))
 
 returns-2 : tie.Need-returns-2
-unfolding G.failIfAt
+unfolding G.fail_if_at
 returns-2 c =
     let at = c.before in
     let entry = at.before.before.before.before in

@@ -9,7 +9,7 @@ at-requires : tie.Need-at-requires
 at-requires c κs = c.before.before.before.requires
 
 returns : tie.Need-returns
-unfolding G.failUnlessAt
+unfolding G.fail_unless_at
 returns c =
     let at = c.before in
     let entry = at.before.before.before.before in
@@ -24,7 +24,7 @@ same_length : tie.Need-same-length
 same_length c = c.before.before.error.auto.1.0
 
 returns-2 : tie.Need-returns-2
-unfolding G.failUnlessAt
+unfolding G.fail_unless_at
 returns-2 c =
     let error = c.before.before in
     let if1 = error.before.before in

@@ -23,7 +23,7 @@ same_length c =
     complete.complete.auto.1.0 ∙ bump.bump.auto.1.1.1.0 ∙ start.start.auto.1.0
 
 returns : tie.Need-returns
-unfolding A.hardwareQubit
+unfolding A.hardware_qubit
 returns c =
     let complete = c.before.before in
     let bump = complete.before.before.before.before in

@@ -14,7 +14,7 @@ is-scalar-type-requires : tie.Need-is-scalar-type-requires
 is-scalar-type-requires c κs = search rules
 
 returns : tie.Need-returns
-unfolding G.scalarReturn
+unfolding G.scalar_return
 returns c =
     let is-scalar-type = c.before in
     let current = is-scalar-type.before.before in
@@ -29,7 +29,7 @@ same_length : tie.Need-same-length
 same_length c = c.before.before.error.auto.1.0
 
 returns-2 : tie.Need-returns-2
-unfolding G.scalarReturn
+unfolding G.scalar_return
 returns-2 c =
     let error = c.before.before in
     let if1 = error.before.before in

@@ -27,7 +27,7 @@ same_length c =
     complete.complete.auto.1.0 ∙ bump-any.bump-any.auto.1.1.1.0 ∙ start.start.auto.1.0
 
 returns : tie.Need-returns
-unfolding E.varName
+unfolding E.var_name
 returns c =
     let complete = c.before.before.before in
     let bump-any = complete.before.before.before.before in
@@ -56,7 +56,7 @@ same-length-2 c =
     complete2.complete2.auto.1.0 ∙ error.error.auto.1.0 ∙ start.start.auto.1.0
 
 returns-2 : tie.Need-returns-2
-unfolding E.varName
+unfolding E.var_name
 returns-2 c =
     let complete2 = c.before.before.before in
     let error = complete2.before.before.before.before in

@@ -1,5 +1,5 @@
 -- `input::parts_of` meets its contract. Assumes nothing.
-use Rattle.input.specs.Glue.{gluedKinds, parts_of}
+use Rattle.input.specs.Glue.{glued_kinds, parts_of}
 use Rattle.input.proofs.Reading.{plain}
 use Rattle.input.proofs.parts_of.Statement.{statement}
 use Rattle.input.proofs.parts_of.Tie as tie
@@ -106,7 +106,7 @@ returns-25 c = rw c.match.keys25
 
 returns-26 : tie.Need-returns-26
 unfolding parts_of
-returns-26 c = plain _ gluedKinds (Unit {0}) c.match.rest
+returns-26 c = plain _ glued_kinds (Unit {0}) c.match.rest
 
 pub parts-of-spec : {M : Type 1} → statement M
 parts-of-spec =

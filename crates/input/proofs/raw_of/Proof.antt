@@ -3,7 +3,7 @@ use mathlib.Core.Path.{refl, sym, ap, ◌∙◌}
 use native.Mathlib.Omega.{arith}
 use borrow.Author.Rules.{rules}
 use Rattle.kinds.specs.Kinds.{DOT3, DOT2EQ, SHLEQ, SHREQ}
-use Rattle.input.specs.Glue.{parts_of, rawCount}
+use Rattle.input.specs.Glue.{parts_of, raw_count}
 use Rattle.input.proofs.Plain.{plain-one, pair-raw, three-raw}
 use Rattle.input.proofs.raw_of.Statement.{statement}
 use Rattle.input.proofs.raw_of.Tie as tie
@@ -12,7 +12,7 @@ is-plain-requires : tie.Need-is-plain-requires
 is-plain-requires c κs = search rules
 
 returns : tie.Need-returns
-returns c = sym (ap rawCount (plain-one _ (sym c.before.is_plain.ensures ∙ c.if1.true)))
+returns c = sym (ap raw_count (plain-one _ (sym c.before.is_plain.ensures ∙ c.if1.true)))
 
 returns-2 : tie.Need-returns-2
 unfolding parts_of

@@ -1,6 +1,6 @@
 -- `input::stands_at` meets its contract. Assumes nothing.
 use borrow.Author.Rules.{rules}
-use Rattle.input.specs.Glue.{standsAt}
+use Rattle.input.specs.Glue.{stands_at}
 use Rattle.input.proofs.stands_at.Statement.{statement}
 use Rattle.input.proofs.stands_at.Tie as tie
 
@@ -23,15 +23,15 @@ at-composite3-requires : tie.Need-at-composite3-requires
 at-composite3-requires c κs = search rules
 
 returns : tie.Need-returns
-unfolding standsAt
+unfolding stands_at
 returns c = rw (c.before.before.parts.given.1, c.kind.ensures)
 
 returns-2 : tie.Need-returns-2
-unfolding standsAt
+unfolding stands_at
 returns-2 c = rw c.before.before.parts2.given.1 c.at-composite2.ensures
 
 returns-3 : tie.Need-returns-3
-unfolding standsAt
+unfolding stands_at
 returns-3 c = rw c.before.before.parts3.given.1 c.at-composite3.ensures
 
 pub stands-at-spec : {M : Type 1} → statement M

@@ -4,7 +4,7 @@ use Prim.Native.Nat.{ℕ, ◌+◌, ◌≤◌, ◌<◌, ◌-◌}
 use native.Mathlib.Omega.{arith}
 use borrow.Author.Rules.{rules}
 use lib.ListN.{length}
-use Rattle.lex.specs.Lexing.{isTrivia}
+use Rattle.lex.specs.Lexing.{is_trivia}
 use Rattle.lex.proofs.Laws.{one_more}
 use Rattle.lex.proofs.Writing.{Next, next-token, Counting, count-begin, count-on, count-end}
 use Rattle.lex.proofs.count.Statement.{statement}
@@ -42,7 +42,7 @@ loop-again c =
     let l = c.before.before.before.loop in (
       omega (arith, found c),
       omega (arith, found c, l.invariant.1),
-      omega (arith, one_more l.some (isTrivia c.before.token-at.result.kind) c.with-kind.ensures, l.invariant.2),
+      omega (arith, one_more l.some (is_trivia c.before.token-at.result.kind) c.with-kind.ensures, l.invariant.2),
       subst (Counting c.before.before.before.before.before.args.text.now (l.i + c.before.token-at.result.len) (l.all + 1)) (sym c.with-kind.ensures) (count-on c.before.token-at.result.kind c.before.token-at.result.len l.invariant.3 (found c)),
     )
 

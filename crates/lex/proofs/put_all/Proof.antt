@@ -9,7 +9,7 @@ use lib.ListN.{length, set}
 use Rattle.kinds.specs.Membership.{one_of}
 use Rattle.lexical.specs.Lexed.{lexed}
 use Rattle.lexical.specs.Rules.{rules}
-use Rattle.lex.specs.Lexing.{isTrivia, kindsIn, put_bit, lent}
+use Rattle.lex.specs.Lexing.{is_trivia, kinds_in, put_bit, lent}
 use Rattle.lex.proofs.Laws.{one_more, Held, held}
 use Rattle.lex.proofs.Writing.{Next, next-token, Writing, begin, kinds-there, kind-there, token-there, onward, settled, waits-held, finish}
 use Rattle.lex.proofs.put_all.Statement.{statement}
@@ -28,8 +28,8 @@ token-at-requires : tie.Need-token-at-requires invariant-loop decreases-loop
 token-at-requires c κs = (omega (arith, c.before.loop.invariant.0), (c.before.before.before.before.before.before.requires.1.1.0, c.before.before.before.before.before.before.requires.1.1.1))
 
 -- the rooms hold the tokens
-rooms : (c : tie.Start invariant-loop decreases-loop) → Held (length (lexed rules c.args.text.now)) (length (kindsIn (lexed rules c.args.text.now))) (length c.args.kinds.now) (length c.args.joints.now) (length c.args.tokens.now)
-rooms c = held (length (lexed rules c.args.text.now)) (length (kindsIn (lexed rules c.args.text.now))) (length c.args.kinds.now) (length c.args.joints.now) (length c.args.tokens.now) c.requires.1.0
+rooms : (c : tie.Start invariant-loop decreases-loop) → Held (length (lexed rules c.args.text.now)) (length (kinds_in (lexed rules c.args.text.now))) (length c.args.kinds.now) (length c.args.joints.now) (length c.args.tokens.now)
+rooms c = held (length (lexed rules c.args.text.now)) (length (kinds_in (lexed rules c.args.text.now))) (length c.args.kinds.now) (length c.args.joints.now) (length c.args.tokens.now) c.requires.1.0
 
 found : (c : tie.After-token-at invariant-loop decreases-loop) → Next c.before.before.before.before.before.before.before.args.text.now c.before.before.loop.i c.token-at.result.kind c.token-at.result.len
 found c = next-token _ _ c.token-at.result.kind _ c.before.loop-test.true c.token-at.ensures
@@ -75,7 +75,7 @@ loop-again c =
     let put = c.before.before.before.before.before.before.before.before.before.before.put in (
       omega (arith, found t),
       omega (arith, found t, l.invariant.1),
-      omega (arith, one_more l.m (isTrivia k) part.ensures.0, l.invariant.2),
+      omega (arith, one_more l.m (is_trivia k) part.ensures.0, l.invariant.2),
       part.auto.0 ∙ l.invariant.3,
       part.auto.1.0 ∙ l.invariant.4,
       put.auto.0 ∙ l.invariant.5,

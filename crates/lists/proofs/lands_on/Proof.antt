@@ -5,7 +5,7 @@ use Prim.Native.Nat.{◌+◌, ◌*◌, ◌/◌, ◌%◌, ◌≤◌}
 use native.Mathlib.Nat.{mul-le-mul}
 use lib.ListN.{get_or}
 use borrow.Author.Rules.{rules}
-use Rattle.event.specs.Event.{eventsOf}
+use Rattle.event.specs.Event.{events_of}
 use Rattle.event.proofs.Rooms.{length-events}
 use Rattle.lists.proofs.Scans.{lands-past}
 use Rattle.lists.proofs.Table.{lands-astray}
@@ -18,7 +18,7 @@ add-j c = search rules
 returns : tie.Need-returns
 returns c =
     let a = c.before.args in
-    lands-past (eventsOf a.words.now) a.i a.d (λ z. omega arith) (omega (arith, length-events a.words.now))
+    lands-past (events_of a.words.now) a.i a.d (λ z. omega arith) (omega (arith, length-events a.words.now))
 
 mul-astray : tie.Need-overflow-mul-astray
 mul-astray c = search rules

@@ -6,7 +6,7 @@ use mathlib.Core.Path.{sym, ap, ◌∙◌}
 use lib.ListN.{get_or, length-drop}
 use borrow.Author.Rules.{rules}
 use borrow.Author.Tests.{not-true, not-false}
-use Rattle.event.specs.Event.{eventsOf, isStart}
+use Rattle.event.specs.Event.{events_of, is_start}
 use Rattle.event.proofs.Encoding.{say-other}
 use Rattle.event.proofs.Rooms.{event-index, length-events}
 use Rattle.own.proofs.Says.{distance-le}
@@ -45,7 +45,7 @@ decode-requires : tie.Need-decode-requires
 decode-requires c κs = search rules
 
 pass-plain-requires : tie.Need-pass-plain-requires
-pass-plain-requires c κs = ap isStart c.decode.ensures ∙ (say-other _ _ (λ e. omega arith)).0
+pass-plain-requires c κs = ap is_start c.decode.ensures ∙ (say-other _ _ (λ e. omega arith)).0
 
 returns-2 : tie.Need-returns-2
 returns-2 c =
@@ -57,7 +57,7 @@ returns-3 : tie.Need-returns-3
 returns-3 c =
     let s = c.before.before.before.before.before.before in
     let w = s.args.words.now in
-    rw (← event-index w s.args.i s.requires.0) (sym (next-far _ _ _ _ c.before.if2.false c.if3.true (omega (arith, length-drop (suc s.args.i) (eventsOf w), length-events w))))
+    rw (← event-index w s.args.i s.requires.0) (sym (next-far _ _ _ _ c.before.if2.false c.if3.true (omega (arith, length-drop (suc s.args.i) (events_of w), length-events w))))
 
 traits-requires : tie.Need-traits-requires
 traits-requires c κs = search rules

@@ -7,7 +7,7 @@ use borrow.Author.Rules.{rules}
 use Rattle.laws.proofs.Tests.{apart}
 use Rattle.event.specs.declared.Event.{Event}
 use Rattle.event.specs.declared.Event.TheVariants.{Finish}
-use Rattle.event.specs.Event.{isStart}
+use Rattle.event.specs.Event.{is_start}
 use Rattle.lists.specs.Check.{Next.Open, next}
 use Rattle.lists.proofs.pass_plain.Statement.{statement}
 use Rattle.lists.proofs.pass_plain.Tie as tie
@@ -46,7 +46,7 @@ enum-told-5 : tie.Need-enum-told-5
 enum-told-5 c = search rules
 
 returns : tie.Need-returns
-returns c es = apart (sym c.before.before.requires ∙ ap isStart c.enum_told.given.1)
+returns c es = apart (sym c.before.before.requires ∙ ap is_start c.enum_told.given.1)
 
 returns-2 : tie.Need-returns-2
 unfolding next

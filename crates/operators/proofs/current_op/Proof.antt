@@ -29,7 +29,7 @@ cast-t16 : tie.Need-overflow-cast-t16
 cast-t16 c = omega (arith, packed-small (mode-fair _) _ c.power-of.ensures)
 
 returns : tie.Need-returns
-unfolding S.currentOp
+unfolding S.current_op
 returns c = only _ _ _ (λ room. peek _ _ _ _ _ c.before.before.before.current.ensures (peek _ _ _ _ _ c.before.operator-at.ensures (rw (c.power-of.ensures, packed-power (mode-fair _), packed-next (mode-fair _)) (ends _ _ _ c.before.operator-at.ensures.fit))))
 
 pub current-op-spec : {M : Type 1} → statement M

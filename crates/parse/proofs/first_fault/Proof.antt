@@ -5,13 +5,13 @@ use native.Mathlib.Omega.{arith}
 use native.Mathlib.Numerals.{add-one}
 use lib.ListN.{length, drop}
 use borrow.Author.Rules.{rules}
-use Rattle.parse.specs.Parse.{firstFault}
+use Rattle.parse.specs.Parse.{first_fault}
 use Rattle.parse.proofs.Faults.{fault-here, fault-later, fault-none}
 use Rattle.parse.proofs.first_fault.Statement.{statement}
 use Rattle.parse.proofs.first_fault.Tie as tie
 
 abbrev invariant-loop : tie.invariant-loop
-invariant-loop kinds i₀ i = (i ≤ length kinds) × (i + firstFault (drop i kinds) ≡ firstFault kinds)
+invariant-loop kinds i₀ i = (i ≤ length kinds) × (i + first_fault (drop i kinds) ≡ first_fault kinds)
 
 abbrev decreases-loop : tie.decreases-loop
 decreases-loop kinds i₀ i = length kinds - i

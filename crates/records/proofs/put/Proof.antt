@@ -6,13 +6,13 @@ use mathlib.Core.Path.{◌≡◌}
 use lib.ListN.{length}
 use borrow.Author.Rules.{rules}
 use Rattle.records.specs.declared.Step.{Step}
-use Rattle.records.specs.Record.{recordOf}
+use Rattle.records.specs.Record.{record_of}
 use Rattle.records.proofs.Writes.{wrote_then}
 use Rattle.records.proofs.put.Statement.{statement}
 use Rattle.records.proofs.put.Tie as tie
 
 -- the room for a step that is t
-room : (s t : Step) (at n : ℕ) → s ≡ t → at + length (recordOf s) ≤ n → at + length (recordOf t) ≤ n
+room : (s t : Step) (at n : ℕ) → s ≡ t → at + length (record_of s) ≤ n → at + length (record_of t) ≤ n
 room s t at n e h = rw e at h
 
 enum-known-s : tie.Need-enum-known-s

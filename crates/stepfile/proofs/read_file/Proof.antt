@@ -3,7 +3,7 @@ use Prim.Native.Nat.{suc, ◌-◌}
 use native.Mathlib.Omega.{arith}
 use mathlib.Core.Path.{◌≡◌, sym, ◌∙◌}
 use lib.ListN.{length, drop, length-drop}
-use Rattle.stepfile.specs.File.{fileRead}
+use Rattle.stepfile.specs.File.{file_read}
 use Rattle.stepfile.specs.Inside.{Fits, from}
 use Rattle.stepfile.proofs.Walks.{walk-rounds}
 use borrow.Author.Rules.{rules}
@@ -11,7 +11,7 @@ use Rattle.stepfile.proofs.read_file.Statement.{statement}
 use Rattle.stepfile.proofs.read_file.Tie as tie
 
 abbrev invariant-loop : tie.invariant-loop
-invariant-loop file w₀ w = Fits file w × (from (suc (length file)) file w ≡ fileRead file)
+invariant-loop file w₀ w = Fits file w × (from (suc (length file)) file w ≡ file_read file)
 
 abbrev decreases-loop : tie.decreases-loop
 decreases-loop file w₀ w = length file - w.at

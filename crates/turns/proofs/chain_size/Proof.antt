@@ -5,7 +5,7 @@ use native.Mathlib.Omega.{arith}
 use mathlib.Core.Path.{◌∙◌, ap}
 use lib.ListN.{length}
 use borrow.Author.Rules.{rules}
-use Rattle.event.specs.Event.{eventsOf, distance}
+use Rattle.event.specs.Event.{events_of, distance}
 use Rattle.event.proofs.Rooms.{length-events}
 use Rattle.own.specs.Own.{cost}
 use Rattle.own.proofs.Writes.{cost-le}
@@ -14,7 +14,7 @@ use Rattle.turns.proofs.chain_size.Statement.{statement}
 use Rattle.turns.proofs.chain_size.Tie as tie
 
 abbrev invariant-loop : tie.invariant-loop
-invariant-loop words i d p₀ q₀ size₀ p q size = Sizing (eventsOf words) i d p q size
+invariant-loop words i d p₀ q₀ size₀ p q size = Sizing (events_of words) i d p q size
 
 abbrev decreases-loop : tie.decreases-loop
 decreases-loop words i d p₀ q₀ size₀ p q size = length words - p

@@ -6,7 +6,7 @@ use mathlib.Core.Path.{◌≡◌, refl, ◌∙◌, ap}
 use lib.ListN.{length, get_or}
 use borrow.Author.Rules.{rules}
 use Rattle.event.specs.declared.Event.TheVariants.{NoEvent}
-use Rattle.event.specs.Event.{eventsOf, distance}
+use Rattle.event.specs.Event.{events_of, distance}
 use Rattle.event.proofs.Rooms.{length-events}
 use Rattle.own.specs.Own.{cost}
 use Rattle.turns.proofs.Following.{Writing, begin, next, next-room, onward, done}
@@ -14,7 +14,7 @@ use Rattle.turns.proofs.put_chain.Statement.{statement}
 use Rattle.turns.proofs.put_chain.Tie as tie
 
 abbrev invariant-loop : tie.invariant-loop
-invariant-loop words₀ out₀ i d at size p₀ q₀ end₀ words out p q end = (length words ≡ length words₀) × Writing (eventsOf words₀) out₀ i d at (eventsOf words) out p q end
+invariant-loop words₀ out₀ i d at size p₀ q₀ end₀ words out p q end = (length words ≡ length words₀) × Writing (events_of words₀) out₀ i d at (events_of words) out p q end
 
 abbrev decreases-loop : tie.decreases-loop
 decreases-loop words₀ out₀ i d at size p₀ q₀ end₀ words out p q end = length words₀ - p
@@ -25,7 +25,7 @@ inside c = omega (arith, (next _ _ _ _ _ _ _ _ _ _ c.before.loop.invariant.1 c.l
 
 -- the next event's bytes fit before the end of what is still to write
 costs : (c : tie.After-cost invariant-loop decreases-loop)
-    → c.cost.result ≡ cost (get_or (eventsOf c.before.before.before.before.before.before.before.before.loop.words) (c.before.before.before.before.before.before.before.before.loop.p + c.before.before.before.before.before.before.before.before.loop.q) (NoEvent 0 0))
+    → c.cost.result ≡ cost (get_or (events_of c.before.before.before.before.before.before.before.before.loop.words) (c.before.before.before.before.before.before.before.before.loop.p + c.before.before.before.before.before.before.before.before.loop.q) (NoEvent 0 0))
 costs c = c.cost.ensures ∙ ap cost c.before.before.before.before.before.event-at.ensures
 
 room : (c : tie.After-cost invariant-loop decreases-loop) → c.cost.result ≤ c.before.before.before.before.before.before.before.before.loop.end

@@ -6,7 +6,7 @@ use mathlib.Core.Path.{◌≡◌, sym, ap, ◌∙◌}
 use lib.ListN.{get_or}
 use borrow.Author.Rules.{rules}
 use Rattle.event.specs.declared.Event.TheVariants.{NoEvent}
-use Rattle.event.specs.Event.{decode, eventsOf, distance}
+use Rattle.event.specs.Event.{decode, events_of, distance}
 use Rattle.event.proofs.Rooms.{length-events, event-index}
 use Rattle.own.specs.Own.{cost}
 use Rattle.own.specs.Inside.{Say}
@@ -23,7 +23,7 @@ first s = get_or s.args.words.now (2 * s.args.i) 0
 abbrev second : tie.Start → ℕ
 second s = get_or s.args.words.now (2 * s.args.i + 1) 0
 
-here : (s : tie.Start) → decode (first s) (second s) ≡ get_or (eventsOf s.args.words.now) s.args.i (NoEvent 0 0)
+here : (s : tie.Start) → decode (first s) (second s) ≡ get_or (events_of s.args.words.now) s.args.i (NoEvent 0 0)
 here s = event-index s.args.words.now s.args.i s.requires.0
 
 says : (s : tie.Start) → Say (first s) (second s)
@@ -34,7 +34,7 @@ abbrev entry : tie.After-clear → tie.Start
 entry c = c.before.before.before.before.before.before.before.before
 
 turning : (c : tie.After-clear)
-    → Turning (eventsOf (entry c).args.words.now) (entry c).args.i (entry c).args.at (entry c).args.size (entry c).args.out.now (eventsOf c.clear.new.0) c.before.before.before.leads.result
+    → Turning (events_of (entry c).args.words.now) (entry c).args.i (entry c).args.at (entry c).args.size (entry c).args.out.now (events_of c.clear.new.0) c.before.before.before.leads.result
 turning c =
     record {
       inside = omega (arith, length-events (entry c).args.words.now);

@@ -6,7 +6,7 @@ use mathlib.Core.Path.{◌≡◌, sym, ap, ◌∙◌}
 use lib.ListN.{length, get_or}
 use borrow.Author.Rules.{rules}
 use Rattle.event.specs.declared.Event.TheVariants.{NoEvent}
-use Rattle.event.specs.Event.{decode, eventsOf, isStart, distance}
+use Rattle.event.specs.Event.{decode, events_of, is_start, distance}
 use Rattle.event.proofs.Rooms.{length-events, event-index}
 use Rattle.event.proofs.Encoding.{say-start, start-tag}
 use Rattle.own.specs.Own.{own, cost}
@@ -26,20 +26,20 @@ first c = get_or (entry c).args.words.now (2 * (entry c).args.i) 0
 abbrev far : tie.After-clear → ℕ
 far c = get_or (entry c).args.words.now (2 * (entry c).args.i + 1) 0
 
-here : (c : tie.After-clear) → decode (first c) (far c) ≡ get_or (eventsOf (entry c).args.words.now) (entry c).args.i (NoEvent 0 0)
+here : (c : tie.After-clear) → decode (first c) (far c) ≡ get_or (events_of (entry c).args.words.now) (entry c).args.i (NoEvent 0 0)
 here c = event-index (entry c).args.words.now (entry c).args.i (entry c).requires.0
 
 start : (c : tie.After-clear) → first c / 65536 ≡ 1
 start c = led-start (first c) (far c) (λ z. (entry c).requires.1.1.1.1 (ap distance (sym (here c)) ∙ z))
 
-distant : (c : tie.After-clear) → far c ≡ distance (get_or (eventsOf (entry c).args.words.now) (entry c).args.i (NoEvent 0 0))
+distant : (c : tie.After-clear) → far c ≡ distance (get_or (events_of (entry c).args.words.now) (entry c).args.i (NoEvent 0 0))
 distant c = leads-start (first c) (far c) (omega (arith, start c)) (omega (arith, start c)) ∙ ap distance (here c)
 
 nonzero : (c : tie.After-clear) → far c ≡ 0 → ⊥
 nonzero c z = (entry c).requires.1.1.1.1 (sym (distant c) ∙ z)
 
 turning : (c : tie.After-clear)
-    → Turning (eventsOf (entry c).args.words.now) (entry c).args.i (entry c).args.at (entry c).args.size (entry c).args.out.now (eventsOf c.clear.new.0) (far c)
+    → Turning (events_of (entry c).args.words.now) (entry c).args.i (entry c).args.at (entry c).args.size (entry c).args.out.now (events_of c.clear.new.0) (far c)
 turning c =
     record {
       inside = omega (arith, length-events (entry c).args.words.now);
@@ -58,21 +58,21 @@ next c = omega (arith, (led (turning c) (nonzero c)).inside, length-events c.cle
 abbrev second : tie.After-clear → ℕ
 second c = get_or c.clear.new.0 (2 * ((entry c).args.i + far c)) 0
 
-lands : (c : tie.Then2) → get_or (eventsOf c.before.before.before.before.before.before.clear.new.0) ((entry c.before.before.before.before.before.before).args.i + far c.before.before.before.before.before.before) (NoEvent 0 0) ≡ decode (second c.before.before.before.before.before.before) 0
+lands : (c : tie.Then2) → get_or (events_of c.before.before.before.before.before.before.clear.new.0) ((entry c.before.before.before.before.before.before).args.i + far c.before.before.before.before.before.before) (NoEvent 0 0) ≡ decode (second c.before.before.before.before.before.before) 0
 lands c =
     let k = c.before.before.before.before.before.before in
     sym (event-index k.clear.new.0 ((entry k).args.i + far k) (next k)) ∙ ap (λ (b : ℕ). decode (second k) b) c.before.if1.true
 
-bare : (c : tie.Then2) → distance (get_or (eventsOf c.before.before.before.before.before.before.clear.new.0) ((entry c.before.before.before.before.before.before).args.i + far c.before.before.before.before.before.before) (NoEvent 0 0)) ≡ 0
+bare : (c : tie.Then2) → distance (get_or (events_of c.before.before.before.before.before.before.clear.new.0) ((entry c.before.before.before.before.before.before).args.i + far c.before.before.before.before.before.before) (NoEvent 0 0)) ≡ 0
 bare c = rw (lands c) (omega (arith, distance-le (second c.before.before.before.before.before.before) 0))
 
 -- it is a start
 second-starts : (c : tie.Then2) → second c.before.before.before.before.before.before / 65536 ≡ 1
 second-starts c =
     let k = c.before.before.before.before.before.before in
-    start-tag (second k) 0 (ap isStart (sym (lands c)) ∙ (led (turning k) (nonzero k)).start)
+    start-tag (second k) 0 (ap is_start (sym (lands c)) ∙ (led (turning k) (nonzero k)).start)
 
-own-here : (c : tie.After-clear) → own (get_or (eventsOf (entry c).args.words.now) (entry c).args.i (NoEvent 0 0)) ≡ own (decode (first c) 0)
+own-here : (c : tie.After-clear) → own (get_or (events_of (entry c).args.words.now) (entry c).args.i (NoEvent 0 0)) ≡ own (decode (first c) 0)
 own-here c = ap own (sym (here c) ∙ say-start (first c) (far c) (start c)) ∙ ap own (sym (say-start (first c) 0 (start c)))
 
 mul-a : tie.Need-overflow-mul-a

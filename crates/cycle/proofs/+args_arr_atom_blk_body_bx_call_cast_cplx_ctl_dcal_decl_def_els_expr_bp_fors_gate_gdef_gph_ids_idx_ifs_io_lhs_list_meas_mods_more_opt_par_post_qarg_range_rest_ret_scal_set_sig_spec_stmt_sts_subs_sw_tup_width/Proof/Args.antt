@@ -12,7 +12,7 @@ use Rattle.runtime.specs.State.{view}
 use Rattle.operators.specs.Operators.{table_of}
 use Rattle.grammar.specs.Entry.{counted}
 use Prim.Native.Nat.{ℕ}
-use Rattle.grammar.proofs.Spends.{exprBp-spends}
+use Rattle.grammar.proofs.Spends.{expr_bp-spends}
 use Rattle.kinds.specs.Kinds.{R-PAREN, COMMA}
 use Rattle.kinds.specs.Sets.{EXPR-FIRST}
 use Rattle.runtime.specs.Acts as acts
@@ -52,7 +52,7 @@ calls t = (
 )
 
 abbrev pub Inv-loop : lts.invariant-loop
-Inv-loop kinds joints room₀ mode left m m1 q₀ room q = (length room ≡ length room₀) × Ran (env kinds joints) (G.delimitedRound
+Inv-loop kinds joints room₀ mode left m m1 q₀ room q = (length room ≡ length room₀) × Ran (env kinds joints) (G.delimited_round
     R-PAREN COMMA EXPR-FIRST (E.expr (counted (table_of mode) left))) tt (view q₀ room₀) tt (view q room)
 
 abbrev pub μ-loop : lts.decreases-loop
@@ -128,7 +128,7 @@ module _ (t : ℕ) where
       args_end.args_end.auto.1.1.0 ∙ kept-expr-bp expr-bp
 
   pub returns : Here lts.Need-returns
-  unfolding E.callArgList G.delimited G.delimitedRound
+  unfolding E.call_arg_list G.delimited G.delimited_round
   returns c =
       let args_end = c.before.before in
       let enum-told2 = args_end.before.before in
@@ -162,11 +162,11 @@ module _ (t : ℕ) where
       let expr-bp = separator.before.before.before.before.before.before.before in
       let if1 = expr-bp.before.before in
       let goes_on = if1.before in
-      lt_of_le_of_lt (spent-does _ _ _ separator.separator.ensures) (falls _ _ _ (exprBp-spends _ _ _ _ _) (left-goes _ _ _
+      lt_of_le_of_lt (spent-does _ _ _ separator.separator.ensures) (falls _ _ _ (expr_bp-spends _ _ _ _ _) (left-goes _ _ _
       (sym goes_on.goes_on.ensures ∙ if1.if1.true)) expr-bp.expr-bp.ensures)
 
   pub loop-again : Here lts.Need-loop-preserved
-  unfolding E.callArgList G.delimited G.delimitedRound
+  unfolding E.call_arg_list G.delimited G.delimited_round
   loop-again c =
       let separator = c.before.before.before.before in
       let enum_told = separator.before.before in
@@ -183,7 +183,7 @@ module _ (t : ℕ) where
             (then _ _ _ _ separator.separator.ensures
             (rw c.if2.true
             (ends _ _ _ separator.separator.ensures.fit)))))))
-            (lt_of_le_of_lt (spent-does _ _ _ separator.separator.ensures) (falls _ _ _ (exprBp-spends _ _ _ _ _) (left-goes _ _ _
+            (lt_of_le_of_lt (spent-does _ _ _ separator.separator.ensures) (falls _ _ _ (expr_bp-spends _ _ _ _ _) (left-goes _ _ _
             (sym goes_on.goes_on.ensures ∙ if1.if1.true)) expr-bp.expr-bp.ensures)),
       )
 
@@ -198,7 +198,7 @@ module _ (t : ℕ) where
       args-end2.args-end2.auto.1.1.0 ∙ separator.separator.auto.1.1.0 ∙ kept-expr-bp expr-bp
 
   pub returns-2 : Here lts.Need-returns-2
-  unfolding E.callArgList G.delimited G.delimitedRound
+  unfolding E.call_arg_list G.delimited G.delimited_round
   returns-2 c =
       let args-end2 = c.before.before in
       let if2 = args-end2.before.before in
@@ -237,7 +237,7 @@ module _ (t : ℕ) where
       args-end3.args-end3.auto.1.1.0 ∙ kept-loop loop
 
   pub returns-3 : Here lts.Need-returns-3
-  unfolding E.callArgList G.delimited G.delimitedRound
+  unfolding E.call_arg_list G.delimited G.delimited_round
   returns-3 c =
       let args-end3 = c.before.before in
       let if1 = args-end3.before.before in

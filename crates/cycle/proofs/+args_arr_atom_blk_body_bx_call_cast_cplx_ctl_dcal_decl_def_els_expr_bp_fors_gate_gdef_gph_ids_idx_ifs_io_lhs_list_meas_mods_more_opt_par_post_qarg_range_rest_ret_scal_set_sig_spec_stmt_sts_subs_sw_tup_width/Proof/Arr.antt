@@ -11,7 +11,7 @@ use Rattle.runtime.specs.State.{view}
 use Rattle.operators.specs.Operators.{table_of}
 use Rattle.grammar.specs.Entry.{counted}
 use Prim.Native.Nat.{ℕ}
-use Rattle.grammar.proofs.Spends.{exprBp-spends}
+use Rattle.grammar.proofs.Spends.{expr_bp-spends}
 use Rattle.runtime.specs.Acts as acts
 use Rattle.grammar.specs.Atom as A
 use Rattle.runtime.proofs.parser.Parser.bump.Reads as bump-reads
@@ -49,7 +49,7 @@ calls t = (
 
 abbrev pub Inv-loop : lts.invariant-loop
 Inv-loop kinds joints room₀ mode left m q₀ first₀ semi₀ room q first semi = (length room ≡ length room₀) × Ran (env kinds joints)
-    (A.arrayExprRound (counted (table_of mode) left)) (first₀, semi₀) (view q₀ room₀) (first, semi) (view q room)
+    (A.array_expr_round (counted (table_of mode) left)) (first₀, semi₀) (view q₀ room₀) (first, semi) (view q room)
 
 abbrev pub μ-loop : lts.decreases-loop
 μ-loop kinds joints room₀ mode left m q₀ first₀ semi₀ room q first semi = acts.left q
@@ -117,7 +117,7 @@ module _ (t : ℕ) where
       array-end.array-end.auto.1.1.0 ∙ kept-expr-bp expr-bp
 
   pub returns : Here lts.Need-returns
-  unfolding A.arrayExpr A.arrayExprRound
+  unfolding A.array_expr A.array_expr_round
   returns c =
       let array-end = c.before.before in
       let enum-told2 = array-end.before.before in
@@ -151,11 +151,11 @@ module _ (t : ℕ) where
       let expr-bp = array-next.before.before.before.before.before.before.before in
       let if1 = expr-bp.before.before in
       let goes_on = if1.before in
-      lt_of_le_of_lt (spent-does _ _ _ array-next.array-next.ensures) (falls _ _ _ (exprBp-spends _ _ _ _ _) (left-goes _ _ _
+      lt_of_le_of_lt (spent-does _ _ _ array-next.array-next.ensures) (falls _ _ _ (expr_bp-spends _ _ _ _ _) (left-goes _ _ _
       (sym goes_on.goes_on.ensures ∙ if1.if1.true)) expr-bp.expr-bp.ensures)
 
   pub loop-again : Here lts.Need-loop-preserved
-  unfolding A.arrayExpr A.arrayExprRound
+  unfolding A.array_expr A.array_expr_round
   loop-again c =
       let array-next = c.before.before.before.before.before in
       let enum_told = array-next.before.before in
@@ -172,7 +172,7 @@ module _ (t : ℕ) where
             (then _ _ _ _ array-next.array-next.ensures
             (rw c.enum-told3.given.1
             (ends _ _ _ array-next.array-next.ensures.fit)))))))
-            (lt_of_le_of_lt (spent-does _ _ _ array-next.array-next.ensures) (falls _ _ _ (exprBp-spends _ _ _ _ _) (left-goes _ _ _
+            (lt_of_le_of_lt (spent-does _ _ _ array-next.array-next.ensures) (falls _ _ _ (expr_bp-spends _ _ _ _ _) (left-goes _ _ _
             (sym goes_on.goes_on.ensures ∙ if1.if1.true)) expr-bp.expr-bp.ensures)),
       )
 
@@ -185,11 +185,11 @@ module _ (t : ℕ) where
       let expr-bp = array-next.before.before.before.before.before.before.before in
       let if1 = expr-bp.before.before in
       let goes_on = if1.before in
-      lt_of_le_of_lt (spent-does _ _ _ array-next.array-next.ensures) (falls _ _ _ (exprBp-spends _ _ _ _ _) (left-goes _ _ _
+      lt_of_le_of_lt (spent-does _ _ _ array-next.array-next.ensures) (falls _ _ _ (expr_bp-spends _ _ _ _ _) (left-goes _ _ _
       (sym goes_on.goes_on.ensures ∙ if1.if1.true)) expr-bp.expr-bp.ensures)
 
   pub loop-again-2 : Here lts.Need-loop-preserved-2
-  unfolding A.arrayExpr A.arrayExprRound
+  unfolding A.array_expr A.array_expr_round
   loop-again-2 c =
       let array-next = c.before.before.before.before.before in
       let enum_told = array-next.before.before in
@@ -206,7 +206,7 @@ module _ (t : ℕ) where
             (then _ _ _ _ array-next.array-next.ensures
             (rw c.enum-told4.given.1
             (ends _ _ _ array-next.array-next.ensures.fit)))))))
-            (lt_of_le_of_lt (spent-does _ _ _ array-next.array-next.ensures) (falls _ _ _ (exprBp-spends _ _ _ _ _) (left-goes _ _ _
+            (lt_of_le_of_lt (spent-does _ _ _ array-next.array-next.ensures) (falls _ _ _ (expr_bp-spends _ _ _ _ _) (left-goes _ _ _
             (sym goes_on.goes_on.ensures ∙ if1.if1.true)) expr-bp.expr-bp.ensures)),
       )
 
@@ -224,7 +224,7 @@ module _ (t : ℕ) where
       array-end2.array-end2.auto.1.1.0 ∙ array-next.array-next.auto.1.1.0 ∙ kept-expr-bp expr-bp
 
   pub returns-2 : Here lts.Need-returns-2
-  unfolding A.arrayExpr A.arrayExprRound
+  unfolding A.array_expr A.array_expr_round
   returns-2 c =
       let array-end2 = c.before.before in
       let enum-told5 = array-end2.before.before in
@@ -260,7 +260,7 @@ module _ (t : ℕ) where
       array-end3.array-end3.auto.1.1.0 ∙ kept-loop loop
 
   pub returns-3 : Here lts.Need-returns-3
-  unfolding A.arrayExpr A.arrayExprRound
+  unfolding A.array_expr A.array_expr_round
   returns-3 c =
       let array-end3 = c.before.before in
       let if1 = array-end3.before.before in

@@ -100,7 +100,7 @@ module _ (t : ℕ) where
   same_length c = c.before.before.before.before.before.before.literal.auto.1.1.0
 
   pub returns : Here lts.Need-returns
-  unfolding A.atomExpr A.atomOf one_of
+  unfolding A.atom_expr A.atom_of one_of
   returns c =
       let got = c.before in
       let literal = got.before.before.before.before.before in
@@ -133,7 +133,7 @@ module _ (t : ℕ) where
       cast.cast.auto.1.1.0 ∙ literal.literal.auto.1.1.0
 
   pub returns-2 : Here lts.Need-returns-2
-  unfolding A.atomExpr A.atomOf one_of
+  unfolding A.atom_expr A.atom_of one_of
   returns-2 c =
       let cast = c.before.before.before.before in
       let if1 = cast.before.before in
@@ -166,7 +166,7 @@ module _ (t : ℕ) where
       hardware-qubit.hardware-qubit.auto.1.1.0 ∙ literal.literal.kept.1.1.0
 
   pub returns-3 : Here lts.Need-returns-3
-  unfolding A.atomExpr A.atomOf one_of
+  unfolding A.atom_expr A.atom_of one_of
   returns-3 c =
       let hardware-qubit = c.before.before.before in
       let match2 = hardware-qubit.before.before in
@@ -204,7 +204,7 @@ module _ (t : ℕ) where
       tup.tup.auto.1.1.0 ∙ literal.literal.kept.1.1.0
 
   pub returns-4 : Here lts.Need-returns-4
-  unfolding A.atomExpr A.atomOf one_of
+  unfolding A.atom_expr A.atom_of one_of
   returns-4 c =
       let tup = c.before.before.before in
       let match2 = tup.before.before in
@@ -242,7 +242,7 @@ module _ (t : ℕ) where
       arr.arr.auto.1.1.0 ∙ literal.literal.kept.1.1.0
 
   pub returns-5 : Here lts.Need-returns-5
-  unfolding A.atomExpr A.atomOf one_of
+  unfolding A.atom_expr A.atom_of one_of
   returns-5 c =
       let arr = c.before.before.before in
       let match2 = arr.before.before in
@@ -280,7 +280,7 @@ module _ (t : ℕ) where
       bx.bx.auto.1.1.0 ∙ literal.literal.kept.1.1.0
 
   pub returns-6 : Here lts.Need-returns-6
-  unfolding A.atomExpr A.atomOf one_of
+  unfolding A.atom_expr A.atom_of one_of
   returns-6 c =
       let bx = c.before.before.before in
       let match2 = bx.before.before in
@@ -318,7 +318,7 @@ module _ (t : ℕ) where
       meas.meas.auto.1.1.0 ∙ literal.literal.kept.1.1.0
 
   pub returns-7 : Here lts.Need-returns-7
-  unfolding A.atomExpr A.atomOf one_of
+  unfolding A.atom_expr A.atom_of one_of
   returns-7 c =
       let meas = c.before.before.before in
       let match2 = meas.before.before in
@@ -356,7 +356,7 @@ module _ (t : ℕ) where
       ret.ret.auto.1.1.0 ∙ literal.literal.kept.1.1.0
 
   pub returns-8 : Here lts.Need-returns-8
-  unfolding A.atomExpr A.atomOf one_of
+  unfolding A.atom_expr A.atom_of one_of
   returns-8 c =
       let ret = c.before.before.before in
       let match2 = ret.before.before in
@@ -394,7 +394,7 @@ module _ (t : ℕ) where
       blk.blk.auto.1.1.0 ∙ literal.literal.kept.1.1.0
 
   pub returns-9 : Here lts.Need-returns-9
-  unfolding A.atomExpr A.atomOf one_of
+  unfolding A.atom_expr A.atom_of one_of
   returns-9 c =
       let blk = c.before.before.before in
       let match2 = blk.before.before in
@@ -432,7 +432,7 @@ module _ (t : ℕ) where
       mods.mods.auto.1.1.0 ∙ literal.literal.kept.1.1.0
 
   pub returns-10 : Here lts.Need-returns-10
-  unfolding A.atomExpr A.atomOf one_of
+  unfolding A.atom_expr A.atom_of one_of
   returns-10 c =
       let mods = c.before.before.before in
       let match2 = mods.before.before in
@@ -470,7 +470,7 @@ module _ (t : ℕ) where
       mods2.mods2.auto.1.1.0 ∙ literal.literal.kept.1.1.0
 
   pub returns-11 : Here lts.Need-returns-11
-  unfolding A.atomExpr A.atomOf one_of
+  unfolding A.atom_expr A.atom_of one_of
   returns-11 c =
       let mods2 = c.before.before.before in
       let match2 = mods2.before.before in
@@ -508,7 +508,7 @@ module _ (t : ℕ) where
       mods3.mods3.auto.1.1.0 ∙ literal.literal.kept.1.1.0
 
   pub returns-12 : Here lts.Need-returns-12
-  unfolding A.atomExpr A.atomOf one_of
+  unfolding A.atom_expr A.atom_of one_of
   returns-12 c =
       let mods3 = c.before.before.before in
       let match2 = mods3.before.before in
@@ -546,7 +546,7 @@ module _ (t : ℕ) where
       mods4.mods4.auto.1.1.0 ∙ literal.literal.kept.1.1.0
 
   pub returns-13 : Here lts.Need-returns-13
-  unfolding A.atomExpr A.atomOf one_of
+  unfolding A.atom_expr A.atom_of one_of
   returns-13 c =
       let mods4 = c.before.before.before in
       let match2 = mods4.before.before in
@@ -584,7 +584,7 @@ module _ (t : ℕ) where
       gph.gph.auto.1.1.0 ∙ literal.literal.kept.1.1.0
 
   pub returns-14 : Here lts.Need-returns-14
-  unfolding A.atomExpr A.atomOf one_of
+  unfolding A.atom_expr A.atom_of one_of
   returns-14 c =
       let gph = c.before.before.before in
       let match2 = gph.before.before in
@@ -625,7 +625,7 @@ module _ (t : ℕ) where
       gate.gate.auto.1.1.0 ∙ literal.literal.kept.1.1.0
 
   pub returns-15 : Here lts.Need-returns-15
-  unfolding A.atomExpr A.atomOf one_of
+  unfolding A.atom_expr A.atom_of one_of
   returns-15 c =
       let gate = c.before.before.before in
       let if2 = gate.before.before in
@@ -663,7 +663,7 @@ module _ (t : ℕ) where
       identifier.identifier.auto.1.1.0 ∙ literal.literal.kept.1.1.0
 
   pub returns-16 : Here lts.Need-returns-16
-  unfolding A.atomExpr A.atomOf one_of
+  unfolding A.atom_expr A.atom_of one_of
   returns-16 c =
       let identifier = c.before.before.before in
       let if2 = identifier.before.before in
@@ -698,7 +698,7 @@ module _ (t : ℕ) where
       err-and-bump.err-and-bump.auto.1.1.1.0 ∙ literal.literal.kept.1.1.0
 
   pub returns-17 : Here lts.Need-returns-17
-  unfolding A.atomExpr A.atomOf one_of
+  unfolding A.atom_expr A.atom_of one_of
   returns-17 c =
       let err-and-bump = c.before.before in
       let match2 = err-and-bump.before.before in

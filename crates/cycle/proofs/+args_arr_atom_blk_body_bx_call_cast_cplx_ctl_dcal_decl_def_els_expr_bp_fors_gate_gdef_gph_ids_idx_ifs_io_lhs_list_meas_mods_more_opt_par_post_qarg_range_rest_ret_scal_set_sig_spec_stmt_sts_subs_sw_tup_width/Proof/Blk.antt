@@ -73,7 +73,7 @@ module _ (t : ℕ) where
       start.start.auto.1.0 ∙ must.must.auto.1.1.1.0
 
   pub returns : Here lts.Need-returns
-  unfolding A.blockExpr
+  unfolding A.block_expr
   returns c =
       let complete = c.before.before in
       let expected = complete.before.before.before.before in

@@ -35,7 +35,7 @@ module _ (t : ℕ) where
   same_length c = c.before.before.before.blk.auto.1.1.0
 
   pub returns : Here lts.Need-returns
-  unfolding A.tryBlockExpr
+  unfolding A.try_block_expr
   returns c =
       let blk = c.before.before.before in
       let if1 = blk.before.before in
@@ -52,7 +52,7 @@ module _ (t : ℕ) where
   same-length-2 c = c.before.before.error.auto.1.0
 
   pub returns-2 : Here lts.Need-returns-2
-  unfolding A.tryBlockExpr
+  unfolding A.try_block_expr
   returns-2 c =
       let error = c.before.before in
       let if1 = error.before.before in

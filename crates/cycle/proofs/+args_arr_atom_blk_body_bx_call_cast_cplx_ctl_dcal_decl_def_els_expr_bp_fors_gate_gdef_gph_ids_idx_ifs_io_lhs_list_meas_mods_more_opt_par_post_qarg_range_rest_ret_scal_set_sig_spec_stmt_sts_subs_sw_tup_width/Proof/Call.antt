@@ -92,7 +92,7 @@ module _ (t : ℕ) where
       complete.complete.auto.1.0 ∙ list.list.auto.1.1.0 ∙ kept-args2 args2
 
   pub returns : Here lts.Need-returns
-  unfolding E.callExpr P.argListGateCallQubits
+  unfolding E.call_expr P.arg_list_gate_call_qubits
   returns c =
       let complete = c.before.before in
       let list = complete.before.before.before.before in
@@ -120,7 +120,7 @@ module _ (t : ℕ) where
       complete2.complete2.auto.1.0 ∙ kept-args2 args2
 
   pub returns-2 : Here lts.Need-returns-2
-  unfolding E.callExpr P.argListGateCallQubits
+  unfolding E.call_expr P.arg_list_gate_call_qubits
   returns-2 c =
       let complete2 = c.before.before in
       let if1 = complete2.before.before in

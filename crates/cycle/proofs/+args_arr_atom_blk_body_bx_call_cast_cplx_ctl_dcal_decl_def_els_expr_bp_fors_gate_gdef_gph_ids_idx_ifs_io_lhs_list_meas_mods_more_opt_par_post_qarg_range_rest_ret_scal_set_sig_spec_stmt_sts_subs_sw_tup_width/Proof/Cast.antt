@@ -73,7 +73,7 @@ module _ (t : ℕ) where
       complete.complete.auto.1.0 ∙ expected2.expected2.auto.1.1.0 ∙ expr-bp.expr-bp.auto.1.1.0 ∙ expected.expected.auto.1.1.0 ∙ spec.spec.auto.1.1.0 ∙ start.start.auto.1.0
 
   pub returns : Here lts.Need-returns
-  unfolding A.castExpr
+  unfolding A.cast_expr
   returns c =
       let complete = c.before.before in
       let expected2 = complete.before.before.before.before in

@@ -8,7 +8,7 @@ use lib.ListN.{length}
 use mathlib.Core.Path.{◌≡◌, ◌∙◌}
 use Rattle.grammar.specs.Entry.{counted}
 use Prim.Native.Nat.{ℕ}
-use Rattle.cycle.proofs.Depth.{complexTypeSpec-deeper}
+use Rattle.cycle.proofs.Depth.{complex_type_spec-deeper}
 use Rattle.grammar.specs.Expressions as E
 use Rattle.grammar.proofs.close.Reads as close-reads
 use Rattle.grammar.proofs.completed.Reads as completed-reads
@@ -123,7 +123,7 @@ module _ (t : ℕ) where
       close.close.auto.1.1.0 ∙ scal.scal.auto.1.1.0 ∙ fail-unless-at.fail-unless-at.auto.1.1.0 ∙ bump.bump.auto.1.1.1.0 ∙ kept-bump-any bump-any
 
   pub returns-2 : Here lts.Need-returns-2
-  unfolding E.complexTypeSpec
+  unfolding E.complex_type_spec
   returns-2 c =
       let close = c.before.before in
       let scal = close.before.before.before.before in
@@ -135,7 +135,7 @@ module _ (t : ℕ) where
       let start = bump-any.before.before.before.before.before in
       let must = start.before.before.before.before in
       let if1 = must.before.before in
-      complexTypeSpec-deeper _ _ _ _ if1.if1.false
+      complex_type_spec-deeper _ _ _ _ if1.if1.false
       (simp (assoc, cond-bind, done-bind)
       (then _ _ _ _ must.must.ensures
       (step _ _ _ _ start.start.ensures
@@ -157,7 +157,7 @@ module _ (t : ℕ) where
       completed.completed.auto.0 ∙ kept-bump-any bump-any
 
   pub returns-3 : Here lts.Need-returns-3
-  unfolding E.complexTypeSpec
+  unfolding E.complex_type_spec
   returns-3 c =
       let completed = c.before.before in
       let if2 = completed.before.before in
@@ -166,7 +166,7 @@ module _ (t : ℕ) where
       let start = bump-any.before.before.before.before.before in
       let must = start.before.before.before.before in
       let if1 = must.before.before in
-      complexTypeSpec-deeper _ _ _ _ if1.if1.false
+      complex_type_spec-deeper _ _ _ _ if1.if1.false
       (simp (assoc, cond-bind, done-bind)
       (then _ _ _ _ must.must.ensures
       (step _ _ _ _ start.start.ensures

@@ -87,7 +87,7 @@ module _ (t : ℕ) where
       sig.sig.auto.1.1.0 ∙ list2.list2.auto.1.1.0 ∙ list.list.auto.1.1.0 ∙ kept-name-r name-r
 
   pub returns : Here lts.Need-returns
-  unfolding I.defcal P.paramListDefcalParams P.paramListDefcalQubits
+  unfolding I.defcal P.param_list_defcal_params P.param_list_defcal_qubits
   returns c =
       let sig = c.before.before in
       let list2 = sig.before.before.before.before in
@@ -122,7 +122,7 @@ module _ (t : ℕ) where
       sig2.sig2.auto.1.1.0 ∙ list3.list3.auto.1.1.0 ∙ kept-name-r name-r
 
   pub returns-2 : Here lts.Need-returns-2
-  unfolding I.defcal P.paramListDefcalParams P.paramListDefcalQubits
+  unfolding I.defcal P.param_list_defcal_params P.param_list_defcal_qubits
   returns-2 c =
       let sig2 = c.before.before in
       let list3 = sig2.before.before.before.before in

@@ -152,7 +152,7 @@ module _ (t : ℕ) where
       close.close.auto.1.1.0 ∙ kept-completed completed
 
   pub returns : Here lts.Need-returns
-  unfolding I.classicalDeclarationStmt
+  unfolding I.classical_declaration_stmt
   returns c =
       let close = c.before.before in
       let if2 = close.before.before in
@@ -189,7 +189,7 @@ module _ (t : ℕ) where
       abandon.abandon.auto.1.0 ∙ kept-completed completed
 
   pub returns-2 : Here lts.Need-returns-2
-  unfolding I.classicalDeclarationStmt
+  unfolding I.classical_declaration_stmt
   returns-2 c =
       let abandon = c.before.before in
       let if2 = abandon.before.before in
@@ -235,7 +235,7 @@ module _ (t : ℕ) where
       completed2.completed2.auto.0 ∙ kept-eat2 eat2
 
   pub returns-3 : Here lts.Need-returns-3
-  unfolding I.classicalDeclarationStmt
+  unfolding I.classical_declaration_stmt
   returns-3 c =
       let completed2 = c.before.before in
       let if3 = completed2.before.before in
@@ -281,7 +281,7 @@ module _ (t : ℕ) where
       close2.close2.auto.1.1.0 ∙ expr-bp2.expr-bp2.auto.1.1.0 ∙ kept-expect expect
 
   pub returns-4 : Here lts.Need-returns-4
-  unfolding I.classicalDeclarationStmt
+  unfolding I.classical_declaration_stmt
   returns-4 c =
       let close2 = c.before.before in
       let expr-bp2 = close2.before.before.before.before.before in
@@ -320,7 +320,7 @@ module _ (t : ℕ) where
       abandon3.abandon3.auto.1.0 ∙ kept-expect expect
 
   pub returns-5 : Here lts.Need-returns-5
-  unfolding I.classicalDeclarationStmt
+  unfolding I.classical_declaration_stmt
   returns-5 c =
       let abandon3 = c.before.before in
       let if4 = abandon3.before.before in

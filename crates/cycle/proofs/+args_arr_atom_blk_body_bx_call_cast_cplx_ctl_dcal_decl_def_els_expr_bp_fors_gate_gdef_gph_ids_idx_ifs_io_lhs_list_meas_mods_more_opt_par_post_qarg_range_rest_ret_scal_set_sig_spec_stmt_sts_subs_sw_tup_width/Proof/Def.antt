@@ -92,7 +92,7 @@ module _ (t : ℕ) where
       sig.sig.auto.1.1.0 ∙ list.list.auto.1.1.0 ∙ kept-name-r name-r
 
   pub returns : Here lts.Need-returns
-  unfolding I.defStmt P.paramListDefParams
+  unfolding I.def_stmt P.param_list_def_params
   returns c =
       let sig = c.before.before in
       let list = sig.before.before.before.before in
@@ -127,7 +127,7 @@ module _ (t : ℕ) where
       sig2.sig2.auto.1.1.0 ∙ error.error.auto.1.0 ∙ kept-name-r name-r
 
   pub returns-2 : Here lts.Need-returns-2
-  unfolding I.defStmt P.paramListDefParams
+  unfolding I.def_stmt P.param_list_def_params
   returns-2 c =
       let sig2 = c.before.before in
       let error = sig2.before.before.before.before in

@@ -5,7 +5,7 @@ use Rattle.runtime.proofs.Laws.{any}
 use native.Mathlib.Omega.{arith}
 use Rattle.grammar.specs.Entry.{counted}
 use Prim.Native.Nat.{ℕ}
-use Rattle.cycle.proofs.Depth.{expressionList-deeper}
+use Rattle.cycle.proofs.Depth.{expression_list-deeper}
 use Rattle.grammar.specs.Params as P
 use Rattle.runtime.proofs.parser.Parser.stop.Reads as stop-reads
 use Rattle.cycle.proofs.els.Reads as els
@@ -51,9 +51,9 @@ module _ (t : ℕ) where
   same-length-2 c = c.before.before.list.auto.1.1.0
 
   pub returns-2 : Here lts.Need-returns-2
-  unfolding P.expressionList
+  unfolding P.expression_list
   returns-2 c =
       let list = c.before.before in
       let if1 = list.before.before in
-      expressionList-deeper _ _ _ _ if1.if1.false
+      expression_list-deeper _ _ _ _ if1.if1.false
       list.list.ensures

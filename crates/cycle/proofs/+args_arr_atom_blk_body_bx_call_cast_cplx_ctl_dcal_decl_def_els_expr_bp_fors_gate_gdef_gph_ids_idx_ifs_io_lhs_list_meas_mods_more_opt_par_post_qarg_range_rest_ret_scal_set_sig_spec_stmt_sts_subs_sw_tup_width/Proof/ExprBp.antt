@@ -12,7 +12,7 @@ use Rattle.runtime.specs.State.{view}
 use Rattle.operators.specs.Operators.{table_of}
 use Rattle.grammar.specs.Entry.{counted, later}
 use Prim.Native.Nat.{ℕ}
-use Rattle.cycle.proofs.Depth.{exprBp-deeper}
+use Rattle.cycle.proofs.Depth.{expr_bp-deeper}
 use Rattle.grammar.proofs.Spends.{op-spends, op-left, op-next}
 use Rattle.operators.proofs.Tables.{mode-fair}
 use Rattle.runtime.specs.Acts as acts
@@ -69,7 +69,7 @@ calls t = (
 
 abbrev pub Inv-loop : lts.invariant-loop
 Inv-loop kinds joints room₀ mode left prefer bp d m block q₀ cm₀ room q cm = (length room ≡ length room₀) × Ran (env kinds joints)
-    (E.exprBpRound (counted (table_of mode) d) (later (counted (table_of mode) d)) (table_of mode) prefer bp) cm₀ (view q₀ room₀) cm
+    (E.expr_bp_round (counted (table_of mode) d) (later (counted (table_of mode) d)) (table_of mode) prefer bp) cm₀ (view q₀ room₀) cm
     (view q room)
 
 abbrev pub μ-loop : lts.decreases-loop
@@ -147,7 +147,7 @@ module _ (t : ℕ) where
       abandon.abandon.auto.1.0 ∙ err-recover.err-recover.auto.1.1.1.0 ∙ marker.marker.auto.0
 
   pub returns-2 : Here lts.Need-returns-2
-  unfolding E.exprBp E.exprBpRound
+  unfolding E.expr_bp E.expr_bp_round
   returns-2 c =
       let abandon = c.before.before in
       let err-recover = abandon.before.before.before.before in
@@ -155,7 +155,7 @@ module _ (t : ℕ) where
       let lacks-expr = if2.before.before in
       let marker = lacks-expr.before.before.before.before in
       let if1 = marker.before.before in
-      exprBp-deeper _ _ _ _ _ _ _ if1.if1.false
+      expr_bp-deeper _ _ _ _ _ _ _ if1.if1.false
       (step _ _ _ _ marker.marker.ensures
       (peek _ _ _ _ _ lacks-expr.lacks-expr.ensures
       (rw if2.if2.true
@@ -182,7 +182,7 @@ module _ (t : ℕ) where
       abandon2.abandon2.auto.1.0 ∙ kept-lhs lhs
 
   pub returns-3 : Here lts.Need-returns-3
-  unfolding E.exprBp E.exprBpRound
+  unfolding E.expr_bp E.expr_bp_round
   returns-3 c =
       let abandon2 = c.before.before in
       let enum_told = abandon2.before.before in
@@ -191,7 +191,7 @@ module _ (t : ℕ) where
       let lacks-expr = if2.before.before in
       let marker = lacks-expr.before.before.before.before in
       let if1 = marker.before.before in
-      exprBp-deeper _ _ _ _ _ _ _ if1.if1.false
+      expr_bp-deeper _ _ _ _ _ _ _ if1.if1.false
       (step _ _ _ _ marker.marker.ensures
       (peek _ _ _ _ _ lacks-expr.lacks-expr.ensures
       (rw if2.if2.false
@@ -213,7 +213,7 @@ module _ (t : ℕ) where
   same-length-4 c = kept-extend-to c.before.before.before.before.before.before
 
   pub returns-4 : Here lts.Need-returns-4
-  unfolding E.exprBp E.exprBpRound
+  unfolding E.expr_bp E.expr_bp_round
   returns-4 c =
       let both = c.before in
       let extend_to = both.before.before.before.before.before in
@@ -223,7 +223,7 @@ module _ (t : ℕ) where
       let lacks-expr = if2.before.before in
       let marker = lacks-expr.before.before.before.before in
       let if1 = marker.before.before in
-      exprBp-deeper _ _ _ _ _ _ _ if1.if1.false
+      expr_bp-deeper _ _ _ _ _ _ _ if1.if1.false
       (step _ _ _ _ marker.marker.ensures
       (peek _ _ _ _ _ lacks-expr.lacks-expr.ensures
       (rw if2.if2.false
@@ -246,7 +246,7 @@ module _ (t : ℕ) where
       loop.loop.invariant.0 ∙ kept-extend-to extend_to
 
   pub returns-5 : Here lts.Need-returns-5
-  unfolding E.exprBp E.exprBpRound
+  unfolding E.expr_bp E.expr_bp_round
   returns-5 c =
       let current-op = c.before.before.before.before in
       let loop = current-op.before in
@@ -259,7 +259,7 @@ module _ (t : ℕ) where
       let lacks-expr = if2.before.before in
       let marker = lacks-expr.before.before.before.before in
       let if1 = marker.before.before in
-      exprBp-deeper _ _ _ _ _ _ _ if1.if1.false
+      expr_bp-deeper _ _ _ _ _ _ _ if1.if1.false
       (step _ _ _ _ marker.marker.ensures
       (peek _ _ _ _ _ lacks-expr.lacks-expr.ensures
       (rw if2.if2.false
@@ -316,7 +316,7 @@ module _ (t : ℕ) where
       ))) current-op.current-op.ensures))))
 
   pub loop-again : Here lts.Need-loop-preserved
-  unfolding E.exprBp E.exprBpRound
+  unfolding E.expr_bp E.expr_bp_round
   loop-again c =
       let close-op = c.before.before.before.before in
       let expr-bp = close-op.before.before.before.before.before in

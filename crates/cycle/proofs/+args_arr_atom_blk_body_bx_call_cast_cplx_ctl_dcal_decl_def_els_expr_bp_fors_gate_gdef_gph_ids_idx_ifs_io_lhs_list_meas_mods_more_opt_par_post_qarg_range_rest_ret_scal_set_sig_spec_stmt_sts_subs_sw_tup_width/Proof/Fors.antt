@@ -134,7 +134,7 @@ module _ (t : ℕ) where
       rest.rest.auto.1.1.0 ∙ set.set.auto.1.1.0 ∙ kept-start start
 
   pub returns : Here lts.Need-returns
-  unfolding I.forStmt
+  unfolding I.for_stmt
   returns c =
       let rest = c.before.before in
       let set = rest.before.before.before.before in
@@ -181,7 +181,7 @@ module _ (t : ℕ) where
       rest2.rest2.auto.1.1.0 ∙ range.range.auto.1.1.0 ∙ kept-start start
 
   pub returns-2 : Here lts.Need-returns-2
-  unfolding I.forStmt
+  unfolding I.for_stmt
   returns-2 c =
       let rest2 = c.before.before in
       let range = rest2.before.before.before.before in
@@ -232,7 +232,7 @@ module _ (t : ℕ) where
       rest3.rest3.auto.1.1.0 ∙ expr-bp.expr-bp.auto.1.1.0 ∙ kept-start start
 
   pub returns-3 : Here lts.Need-returns-3
-  unfolding I.forStmt
+  unfolding I.for_stmt
   returns-3 c =
       let rest3 = c.before.before in
       let expr-bp = rest3.before.before.before.before.before in

@@ -87,7 +87,7 @@ module _ (t : ℕ) where
       complete.complete.auto.1.0 ∙ list.list.auto.1.1.0 ∙ args2.args2.auto.1.1.0 ∙ kept-identifier identifier
 
   pub returns : Here lts.Need-returns
-  unfolding A.gateCallExpr P.argListGateCallQubits
+  unfolding A.gate_call_expr P.arg_list_gate_call_qubits
   returns c =
       let complete = c.before.before in
       let list = complete.before.before.before.before in
@@ -122,7 +122,7 @@ module _ (t : ℕ) where
       complete2.complete2.auto.1.0 ∙ list2.list2.auto.1.1.0 ∙ kept-identifier identifier
 
   pub returns-2 : Here lts.Need-returns-2
-  unfolding A.gateCallExpr P.argListGateCallQubits
+  unfolding A.gate_call_expr P.arg_list_gate_call_qubits
   returns-2 c =
       let complete2 = c.before.before in
       let list2 = complete2.before.before.before.before in

@@ -95,7 +95,7 @@ module _ (t : ℕ) where
       kept-name-r name-r
 
   pub returns : Here lts.Need-returns
-  unfolding I.gateDefinition P.paramListGateParams P.paramListGateQubits
+  unfolding I.gate_definition P.param_list_gate_params P.param_list_gate_qubits
   returns c =
       let completed = c.before.before in
       let body = completed.before.before.before.before in
@@ -136,7 +136,7 @@ module _ (t : ℕ) where
       completed2.completed2.auto.0 ∙ body2.body2.auto.1.1.0 ∙ list3.list3.auto.1.1.0 ∙ kept-name-r name-r
 
   pub returns-2 : Here lts.Need-returns-2
-  unfolding I.gateDefinition P.paramListGateParams P.paramListGateQubits
+  unfolding I.gate_definition P.param_list_gate_params P.param_list_gate_qubits
   returns-2 c =
       let completed2 = c.before.before in
       let body2 = completed2.before.before.before.before in

@@ -66,7 +66,7 @@ module _ (t : ℕ) where
       must.must.auto.1.1.1.0
 
   pub returns : Here lts.Need-returns
-  unfolding A.gphaseCallExpr
+  unfolding A.gphase_call_expr
   returns c =
       let complete = c.before.before in
       let expr-bp = complete.before.before.before.before.before in

@@ -41,7 +41,7 @@ calls t = (
 )
 
 abbrev pub Inv-loop : lts.invariant-loop
-Inv-loop kinds joints room₀ mode left m q₀ room q = (length room ≡ length room₀) × Ran (env kinds joints) (E.indexedIdentifierRound
+Inv-loop kinds joints room₀ mode left m q₀ room q = (length room ≡ length room₀) × Ran (env kinds joints) (E.indexed_identifier_round
     (counted (table_of mode) left)) tt (view q₀ room₀) tt (view q room)
 
 abbrev pub μ-loop : lts.decreases-loop
@@ -77,7 +77,7 @@ module _ (t : ℕ) where
       falls _ _ _ (index-spends _) (left-sees _ _ L-BRACK (λ z. omega arith) (sym at.at.ensures ∙ if1.if1.true)) subs.subs.ensures
 
   pub loop-again : Here lts.Need-loop-preserved
-  unfolding E.indexedIdentifier E.indexedIdentifierRound
+  unfolding E.indexed_identifier E.indexed_identifier_round
   loop-again c =
       let subs = c.before.before in
       let if1 = subs.before.before in
@@ -104,7 +104,7 @@ module _ (t : ℕ) where
       complete.complete.auto.1.0 ∙ loop.loop.invariant.0 ∙ precede.precede.auto.1.0 ∙ must.must.auto.1.1.1.0
 
   pub returns : Here lts.Need-returns
-  unfolding E.indexedIdentifier E.indexedIdentifierRound
+  unfolding E.indexed_identifier E.indexed_identifier_round
   returns c =
       let complete = c.before.before in
       let if1 = complete.before.before in

@@ -50,7 +50,7 @@ module _ (t : ℕ) where
   same_length c = c.before.before.ids.auto.1.1.0
 
   pub returns : Here lts.Need-returns
-  unfolding E.indexed E.indexExpr
+  unfolding E.indexed E.index_expr
   returns c =
       let ids = c.before.before in
       let if1 = ids.before.before in
@@ -86,7 +86,7 @@ module _ (t : ℕ) where
       unindexed.unindexed.auto.0
 
   pub returns-2 : Here lts.Need-returns-2
-  unfolding E.indexed E.indexExpr
+  unfolding E.indexed E.index_expr
   returns-2 c =
       let complete = c.before.before in
       let subs = complete.before.before.before.before in

@@ -8,7 +8,7 @@ use lib.ListN.{length}
 use mathlib.Core.Path.{◌≡◌, ◌∙◌}
 use Rattle.grammar.specs.Entry.{counted}
 use Prim.Native.Nat.{ℕ}
-use Rattle.cycle.proofs.Depth.{ifStmt-deeper}
+use Rattle.cycle.proofs.Depth.{if_stmt-deeper}
 use Rattle.grammar.specs.Items as I
 use Rattle.grammar.proofs.completed.Reads as completed-reads
 use Rattle.grammar.proofs.expected.Reads as expected-reads
@@ -157,7 +157,7 @@ module _ (t : ℕ) where
       completed.completed.auto.0 ∙ ifs.ifs.auto.1.1.0 ∙ start.start.auto.1.0 ∙ kept-bump2 bump2
 
   pub returns-2 : Here lts.Need-returns-2
-  unfolding I.ifStmt
+  unfolding I.if_stmt
   returns-2 c =
       let completed = c.before.before in
       let ifs = completed.before.before.before.before in
@@ -174,7 +174,7 @@ module _ (t : ℕ) where
       let bump = expected.before.before.before.before in
       let must = bump.before.before.before.before in
       let if1 = must.before.before in
-      ifStmt-deeper _ _ _ _ _ if1.if1.false
+      if_stmt-deeper _ _ _ _ _ if1.if1.false
       (simp (assoc, cond-bind, done-bind)
       (then _ _ _ _ must.must.ensures
       (then _ _ _ _ bump.bump.ensures
@@ -209,7 +209,7 @@ module _ (t : ℕ) where
       completed2.completed2.auto.0 ∙ body2.body2.auto.1.1.0 ∙ kept-bump2 bump2
 
   pub returns-3 : Here lts.Need-returns-3
-  unfolding I.ifStmt
+  unfolding I.if_stmt
   returns-3 c =
       let completed2 = c.before.before in
       let body2 = completed2.before.before.before.before in
@@ -225,7 +225,7 @@ module _ (t : ℕ) where
       let bump = expected.before.before.before.before in
       let must = bump.before.before.before.before in
       let if1 = must.before.before in
-      ifStmt-deeper _ _ _ _ _ if1.if1.false
+      if_stmt-deeper _ _ _ _ _ if1.if1.false
       (simp (assoc, cond-bind, done-bind)
       (then _ _ _ _ must.must.ensures
       (then _ _ _ _ bump.bump.ensures
@@ -251,7 +251,7 @@ module _ (t : ℕ) where
       completed3.completed3.auto.0 ∙ kept-body body
 
   pub returns-4 : Here lts.Need-returns-4
-  unfolding I.ifStmt
+  unfolding I.if_stmt
   returns-4 c =
       let completed3 = c.before.before in
       let if2 = completed3.before.before in
@@ -263,7 +263,7 @@ module _ (t : ℕ) where
       let bump = expected.before.before.before.before in
       let must = bump.before.before.before.before in
       let if1 = must.before.before in
-      ifStmt-deeper _ _ _ _ _ if1.if1.false
+      if_stmt-deeper _ _ _ _ _ if1.if1.false
       (simp (assoc, cond-bind, done-bind)
       (then _ _ _ _ must.must.ensures
       (then _ _ _ _ bump.bump.ensures

@@ -65,7 +65,7 @@ module _ (t : ℕ) where
       ∙ bump-any.bump-any.auto.1.1.1.0
 
   pub returns : Here lts.Need-returns
-  unfolding I.ioDeclarationStmt
+  unfolding I.io_declaration_stmt
   returns c =
       let close = c.before.before in
       let var-name = close.before.before.before.before in

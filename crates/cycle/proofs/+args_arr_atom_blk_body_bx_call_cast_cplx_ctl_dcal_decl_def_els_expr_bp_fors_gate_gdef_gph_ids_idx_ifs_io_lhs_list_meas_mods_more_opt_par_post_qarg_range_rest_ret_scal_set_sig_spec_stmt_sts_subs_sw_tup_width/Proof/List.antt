@@ -60,7 +60,7 @@ calls t = (
 
 abbrev pub Inv-loop : lts.invariant-loop
 Inv-loop kinds joints room₀ mode left shape how m q₀ n₀ room q n = (length room ≡ length room₀) × Ran (env kinds joints)
-    (P.paramListOpenqasmRound (counted (table_of mode) left) shape) n₀ (view q₀ room₀) n (view q room) × (n + acts.left q ≤ 81938195)
+    (P.param_list_openqasm_round (counted (table_of mode) left) shape) n₀ (view q₀ room₀) n (view q room) × (n + acts.left q ≤ 81938195)
 
 abbrev pub μ-loop : lts.decreases-loop
 μ-loop kinds joints room₀ mode left shape how m q₀ n₀ room q n = acts.left q
@@ -143,7 +143,7 @@ module _ (t : ℕ) where
       ∙ if1.if1.true)) (spent-steps _ _ start.start.ensures) param-ahead.param-ahead.ensures))
 
   pub loop-again : Here lts.Need-loop-preserved
-  unfolding P.paramListOpenqasm P.paramListOpenqasmRound
+  unfolding P.param_list_openqasm P.param_list_openqasm_round
   loop-again c =
       let list-next = c.before.before.before.before in
       let if3 = list-next.before.before in
@@ -191,7 +191,7 @@ module _ (t : ℕ) where
       list-end.list-end.auto.1.1.0 ∙ list-next.list-next.auto.1.1.0 ∙ kept-par par
 
   pub returns : Here lts.Need-returns
-  unfolding P.paramListOpenqasm P.paramListOpenqasmRound
+  unfolding P.param_list_openqasm P.param_list_openqasm_round
   returns c =
       let list-end = c.before.before in
       let if4 = list-end.before.before in
@@ -231,7 +231,7 @@ module _ (t : ℕ) where
       list-end2.list-end2.auto.1.1.0 ∙ kept-par par
 
   pub returns-2 : Here lts.Need-returns-2
-  unfolding P.paramListOpenqasm P.paramListOpenqasmRound
+  unfolding P.param_list_openqasm P.param_list_openqasm_round
   returns-2 c =
       let list-end2 = c.before.before in
       let if3 = list-end2.before.before in
@@ -275,7 +275,7 @@ module _ (t : ℕ) where
       list-end3.list-end3.auto.1.1.0 ∙ abandon.abandon.auto.1.0 ∙ error.error.auto.1.0 ∙ kept-start start
 
   pub returns-3 : Here lts.Need-returns-3
-  unfolding P.paramListOpenqasm P.paramListOpenqasmRound
+  unfolding P.param_list_openqasm P.param_list_openqasm_round
   returns-3 c =
       let list-end3 = c.before.before in
       let abandon = list-end3.before.before.before.before in
@@ -311,7 +311,7 @@ module _ (t : ℕ) where
       list-end4.list-end4.auto.1.1.0 ∙ kept-loop loop
 
   pub returns-4 : Here lts.Need-returns-4
-  unfolding P.paramListOpenqasm P.paramListOpenqasmRound
+  unfolding P.param_list_openqasm P.param_list_openqasm_round
   returns-4 c =
       let list-end4 = c.before.before in
       let if1 = list-end4.before.before in

@@ -81,7 +81,7 @@ module _ (t : ℕ) where
       complete.complete.auto.1.0 ∙ qarg.qarg.auto.1.1.0 ∙ start2.start2.auto.1.0 ∙ kept-bump bump
 
   pub returns : Here lts.Need-returns
-  unfolding A.measureExpression
+  unfolding A.measure_expression
   returns c =
       let complete = c.before.before in
       let qarg = complete.before.before.before.before.before in
@@ -114,7 +114,7 @@ module _ (t : ℕ) where
       complete2.complete2.auto.1.0 ∙ error.error.auto.1.0 ∙ kept-bump bump
 
   pub returns-2 : Here lts.Need-returns-2
-  unfolding A.measureExpression
+  unfolding A.measure_expression
   returns-2 c =
       let complete2 = c.before.before in
       let error = complete2.before.before.before.before in

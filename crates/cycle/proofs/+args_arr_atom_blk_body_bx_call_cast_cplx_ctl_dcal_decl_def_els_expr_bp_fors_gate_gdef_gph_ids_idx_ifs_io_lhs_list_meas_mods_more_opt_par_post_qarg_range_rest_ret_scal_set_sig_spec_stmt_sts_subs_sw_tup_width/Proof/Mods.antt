@@ -52,7 +52,7 @@ calls t = (
 
 abbrev pub Inv-loop : lts.invariant-loop
 Inv-loop kinds joints room₀ mode left m q₀ room q = (length room ≡ length room₀) × Ran (env kinds joints)
-    (A.modifiedGateCallExprRound (counted (table_of mode) left)) tt (view q₀ room₀) tt (view q room)
+    (A.modified_gate_call_expr_round (counted (table_of mode) left)) tt (view q₀ room₀) tt (view q room)
 
 abbrev pub μ-loop : lts.decreases-loop
 μ-loop kinds joints room₀ mode left m q₀ room q = acts.left q
@@ -94,7 +94,7 @@ module _ (t : ℕ) where
       current.current.ensures (λ z. omega (arith, match.match.keys1))) current.current.ensures)
 
   pub loop-again : Here lts.Need-loop-preserved
-  unfolding A.modifiedGateCallExpr A.modifiedGateCallExprRound
+  unfolding A.modified_gate_call_expr A.modified_gate_call_expr_round
   loop-again c =
       let inv-modifier = c.before.before in
       let match = inv-modifier.before.before in
@@ -124,7 +124,7 @@ module _ (t : ℕ) where
       lt_of_le_of_lt (spent-does _ _ _ ctl.ctl.ensures) (falls-peeks _ _ _ (spends-nth 0) (left-told _ 0 _ current.current.ensures (λ z. omega (arith, match.match.keys2))) current.current.ensures)
 
   pub loop-again-2 : Here lts.Need-loop-preserved-2
-  unfolding A.modifiedGateCallExpr A.modifiedGateCallExprRound
+  unfolding A.modified_gate_call_expr A.modified_gate_call_expr_round
   loop-again-2 c =
       let ctl = c.before.before in
       let match = ctl.before.before in
@@ -153,7 +153,7 @@ module _ (t : ℕ) where
       lt_of_le_of_lt (spent-does _ _ _ ctl2.ctl2.ensures) (falls-peeks _ _ _ (spends-nth 0) (left-told _ 0 _ current.current.ensures (λ z. omega (arith, match.match.keys3))) current.current.ensures)
 
   pub loop-again-3 : Here lts.Need-loop-preserved-3
-  unfolding A.modifiedGateCallExpr A.modifiedGateCallExprRound
+  unfolding A.modified_gate_call_expr A.modified_gate_call_expr_round
   loop-again-3 c =
       let ctl2 = c.before.before in
       let match = ctl2.before.before in
@@ -182,7 +182,7 @@ module _ (t : ℕ) where
       lt_of_le_of_lt (spent-does _ _ _ ctl3.ctl3.ensures) (falls-peeks _ _ _ (spends-nth 0) (left-told _ 0 _ current.current.ensures (λ z. omega (arith, match.match.keys4))) current.current.ensures)
 
   pub loop-again-4 : Here lts.Need-loop-preserved-4
-  unfolding A.modifiedGateCallExpr A.modifiedGateCallExprRound
+  unfolding A.modified_gate_call_expr A.modified_gate_call_expr_round
   loop-again-4 c =
       let ctl3 = c.before.before in
       let match = ctl3.before.before in
@@ -217,7 +217,7 @@ module _ (t : ℕ) where
       complete.complete.auto.1.0 ∙ gph.gph.auto.1.1.0 ∙ kept-loop loop
 
   pub returns : Here lts.Need-returns
-  unfolding A.modifiedGateCallExpr A.modifiedGateCallExprRound
+  unfolding A.modified_gate_call_expr A.modified_gate_call_expr_round
   returns c =
       let complete = c.before.before in
       let gph = complete.before.before.before.before.before in
@@ -258,7 +258,7 @@ module _ (t : ℕ) where
       complete2.complete2.auto.1.0 ∙ gate.gate.auto.1.1.0 ∙ kept-loop loop
 
   pub returns-2 : Here lts.Need-returns-2
-  unfolding A.modifiedGateCallExpr A.modifiedGateCallExprRound
+  unfolding A.modified_gate_call_expr A.modified_gate_call_expr_round
   returns-2 c =
       let complete2 = c.before.before in
       let gate = complete2.before.before.before.before.before in

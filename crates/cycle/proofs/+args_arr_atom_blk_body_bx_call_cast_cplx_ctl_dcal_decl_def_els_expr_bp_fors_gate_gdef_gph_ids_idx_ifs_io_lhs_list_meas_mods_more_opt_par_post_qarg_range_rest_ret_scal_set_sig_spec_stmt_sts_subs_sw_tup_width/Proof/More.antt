@@ -120,7 +120,7 @@ module _ (t : ℕ) where
       bump.bump.auto.1.1.1.0
 
   pub returns : Here lts.Need-returns
-  unfolding I.resetStmt I.barrier I.aliasStmt I.delayStmt P.argListGateCallQubits
+  unfolding I.reset_stmt I.barrier I.alias_stmt I.delay_stmt P.arg_list_gate_call_qubits
   returns c =
       let completed = c.before.before in
       let expected = completed.before.before.before.before in
@@ -156,7 +156,7 @@ module _ (t : ℕ) where
       abandon.abandon.auto.1.0 ∙ error.error.auto.1.0 ∙ bump.bump.auto.1.1.1.0
 
   pub returns-2 : Here lts.Need-returns-2
-  unfolding I.resetStmt I.barrier I.aliasStmt I.delayStmt P.argListGateCallQubits
+  unfolding I.reset_stmt I.barrier I.alias_stmt I.delay_stmt P.arg_list_gate_call_qubits
   returns-2 c =
       let abandon = c.before.before in
       let error = abandon.before.before.before.before in
@@ -194,7 +194,7 @@ module _ (t : ℕ) where
       completed2.completed2.auto.0 ∙ expected2.expected2.auto.1.1.0 ∙ bump2.bump2.auto.1.1.1.0
 
   pub returns-3 : Here lts.Need-returns-3
-  unfolding I.resetStmt I.barrier I.aliasStmt I.delayStmt P.argListGateCallQubits
+  unfolding I.reset_stmt I.barrier I.alias_stmt I.delay_stmt P.arg_list_gate_call_qubits
   returns-3 c =
       let completed2 = c.before.before in
       let expected2 = completed2.before.before.before.before in
@@ -232,7 +232,7 @@ module _ (t : ℕ) where
       completed3.completed3.auto.0 ∙ expected3.expected3.auto.1.1.0 ∙ list.list.auto.1.1.0 ∙ bump2.bump2.auto.1.1.1.0
 
   pub returns-4 : Here lts.Need-returns-4
-  unfolding I.resetStmt I.barrier I.aliasStmt I.delayStmt P.argListGateCallQubits
+  unfolding I.reset_stmt I.barrier I.alias_stmt I.delay_stmt P.arg_list_gate_call_qubits
   returns-4 c =
       let completed3 = c.before.before in
       let expected3 = completed3.before.before.before.before in
@@ -258,7 +258,7 @@ module _ (t : ℕ) where
   same-length-5 c = c.before.before.version-string.auto.1.1.0
 
   pub returns-5 : Here lts.Need-returns-5
-  unfolding I.resetStmt I.barrier I.aliasStmt I.delayStmt P.argListGateCallQubits
+  unfolding I.reset_stmt I.barrier I.alias_stmt I.delay_stmt P.arg_list_gate_call_qubits
   returns-5 c =
       let version-string = c.before.before in
       let match = version-string.before.before in
@@ -273,7 +273,7 @@ module _ (t : ℕ) where
   same-length-6 c = c.before.before.include.auto.1.1.0
 
   pub returns-6 : Here lts.Need-returns-6
-  unfolding I.resetStmt I.barrier I.aliasStmt I.delayStmt P.argListGateCallQubits
+  unfolding I.reset_stmt I.barrier I.alias_stmt I.delay_stmt P.arg_list_gate_call_qubits
   returns-6 c =
       let include = c.before.before in
       let match = include.before.before in
@@ -291,7 +291,7 @@ module _ (t : ℕ) where
   same-length-7 c = c.before.before.sw.auto.1.1.0
 
   pub returns-7 : Here lts.Need-returns-7
-  unfolding I.resetStmt I.barrier I.aliasStmt I.delayStmt P.argListGateCallQubits
+  unfolding I.reset_stmt I.barrier I.alias_stmt I.delay_stmt P.arg_list_gate_call_qubits
   returns-7 c =
       let sw = c.before.before in
       let match = sw.before.before in
@@ -335,7 +335,7 @@ module _ (t : ℕ) where
       completed4.completed4.auto.0 ∙ expected5.expected5.auto.1.1.0 ∙ expr-bp.expr-bp.auto.1.1.0 ∙ expected4.expected4.auto.1.1.0 ∙ name-r.name-r.auto.1.1.0 ∙ bump-any.bump-any.auto.1.1.1.0 ∙ must.must.auto.1.1.1.0
 
   pub returns-8 : Here lts.Need-returns-8
-  unfolding I.resetStmt I.barrier I.aliasStmt I.delayStmt P.argListGateCallQubits
+  unfolding I.reset_stmt I.barrier I.alias_stmt I.delay_stmt P.arg_list_gate_call_qubits
   returns-8 c =
       let completed4 = c.before.before in
       let expected5 = completed4.before.before.before.before in
@@ -387,7 +387,7 @@ module _ (t : ℕ) where
       completed5.completed5.auto.0 ∙ expected6.expected6.auto.1.1.0 ∙ list2.list2.auto.1.1.0 ∙ width.width.auto.1.1.0 ∙ bump3.bump3.auto.1.1.1.0
 
   pub returns-9 : Here lts.Need-returns-9
-  unfolding I.resetStmt I.barrier I.aliasStmt I.delayStmt P.argListGateCallQubits
+  unfolding I.reset_stmt I.barrier I.alias_stmt I.delay_stmt P.arg_list_gate_call_qubits
   returns-9 c =
       let completed5 = c.before.before in
       let expected6 = completed5.before.before.before.before in
@@ -414,7 +414,7 @@ module _ (t : ℕ) where
   same-length-10 c = c.before.before.io.auto.1.1.0
 
   pub returns-10 : Here lts.Need-returns-10
-  unfolding I.resetStmt I.barrier I.aliasStmt I.delayStmt P.argListGateCallQubits
+  unfolding I.reset_stmt I.barrier I.alias_stmt I.delay_stmt P.arg_list_gate_call_qubits
   returns-10 c =
       let io = c.before.before in
       let match = io.before.before in
@@ -432,7 +432,7 @@ module _ (t : ℕ) where
   same-length-11 c = c.before.before.io2.auto.1.1.0
 
   pub returns-11 : Here lts.Need-returns-11
-  unfolding I.resetStmt I.barrier I.aliasStmt I.delayStmt P.argListGateCallQubits
+  unfolding I.reset_stmt I.barrier I.alias_stmt I.delay_stmt P.arg_list_gate_call_qubits
   returns-11 c =
       let io2 = c.before.before in
       let match = io2.before.before in
@@ -441,7 +441,7 @@ module _ (t : ℕ) where
       (ends _ _ _ io2.io2.ensures.fit))
 
   pub returns-12 : Here lts.Need-returns-12
-  unfolding I.resetStmt I.barrier I.aliasStmt I.delayStmt P.argListGateCallQubits
+  unfolding I.reset_stmt I.barrier I.alias_stmt I.delay_stmt P.arg_list_gate_call_qubits
   returns-12 c = rw (ne_eqb _ _ c.match.rest.0.0.0.0.0.0.0.0.1)
       (rw (ne_eqb _ _ c.match.rest.0.0.0.0.0.0.0.1)
       (rw (ne_eqb _ _ c.match.rest.0.0.0.0.0.0.1)

@@ -148,7 +148,7 @@ module _ (t : ℕ) where
   same_length c = c.before.before.decl.auto.1.1.0
 
   pub returns : Here lts.Need-returns
-  unfolding I.optItem I.qubitDeclarationStmt E.qubitTypeSpec I.whileStmt I.cal
+  unfolding I.opt_item I.qubit_declaration_stmt E.qubit_type_spec I.while_stmt I.cal
   returns c =
       let decl = c.before.before in
       let if1 = decl.before.before in
@@ -204,7 +204,7 @@ module _ (t : ℕ) where
       qubit-end.qubit-end.auto.1.1.0 ∙ completed.completed.auto.0 ∙ fail-if-at.fail-if-at.auto.1.1.0 ∙ width.width.auto.1.1.0 ∙ kept-type-name type-name
 
   pub returns-2 : Here lts.Need-returns-2
-  unfolding I.optItem I.qubitDeclarationStmt E.qubitTypeSpec I.whileStmt I.cal
+  unfolding I.opt_item I.qubit_declaration_stmt E.qubit_type_spec I.while_stmt I.cal
   returns-2 c =
       let qubit-end = c.before.before in
       let completed = qubit-end.before.before.before.before in
@@ -254,7 +254,7 @@ module _ (t : ℕ) where
       qubit-end2.qubit-end2.auto.1.1.0 ∙ completed2.completed2.auto.0 ∙ kept-type-name type-name
 
   pub returns-3 : Here lts.Need-returns-3
-  unfolding I.optItem I.qubitDeclarationStmt E.qubitTypeSpec I.whileStmt I.cal
+  unfolding I.opt_item I.qubit_declaration_stmt E.qubit_type_spec I.while_stmt I.cal
   returns-3 c =
       let qubit-end2 = c.before.before in
       let completed2 = qubit-end2.before.before.before.before in
@@ -296,7 +296,7 @@ module _ (t : ℕ) where
   same-length-4 c = c.before.before.decl2.auto.1.1.0
 
   pub returns-4 : Here lts.Need-returns-4
-  unfolding I.optItem I.qubitDeclarationStmt E.qubitTypeSpec I.whileStmt I.cal
+  unfolding I.opt_item I.qubit_declaration_stmt E.qubit_type_spec I.while_stmt I.cal
   returns-4 c =
       let decl2 = c.before.before in
       let match = decl2.before.before in
@@ -323,7 +323,7 @@ module _ (t : ℕ) where
   same-length-5 c = c.before.before.gdef.auto.1.1.0
 
   pub returns-5 : Here lts.Need-returns-5
-  unfolding I.optItem I.qubitDeclarationStmt E.qubitTypeSpec I.whileStmt I.cal
+  unfolding I.opt_item I.qubit_declaration_stmt E.qubit_type_spec I.while_stmt I.cal
   returns-5 c =
       let gdef = c.before.before in
       let match = gdef.before.before in
@@ -347,7 +347,7 @@ module _ (t : ℕ) where
   same-length-6 c = c.before.before.break-.auto.1.1.0
 
   pub returns-6 : Here lts.Need-returns-6
-  unfolding I.optItem I.qubitDeclarationStmt E.qubitTypeSpec I.whileStmt I.cal
+  unfolding I.opt_item I.qubit_declaration_stmt E.qubit_type_spec I.while_stmt I.cal
   returns-6 c =
       let break- = c.before.before in
       let match = break-.before.before in
@@ -371,7 +371,7 @@ module _ (t : ℕ) where
   same-length-7 c = c.before.before.continue-.auto.1.1.0
 
   pub returns-7 : Here lts.Need-returns-7
-  unfolding I.optItem I.qubitDeclarationStmt E.qubitTypeSpec I.whileStmt I.cal
+  unfolding I.opt_item I.qubit_declaration_stmt E.qubit_type_spec I.while_stmt I.cal
   returns-7 c =
       let continue- = c.before.before in
       let match = continue-.before.before in
@@ -395,7 +395,7 @@ module _ (t : ℕ) where
   same-length-8 c = c.before.before.end-.auto.1.1.0
 
   pub returns-8 : Here lts.Need-returns-8
-  unfolding I.optItem I.qubitDeclarationStmt E.qubitTypeSpec I.whileStmt I.cal
+  unfolding I.opt_item I.qubit_declaration_stmt E.qubit_type_spec I.while_stmt I.cal
   returns-8 c =
       let end- = c.before.before in
       let match = end-.before.before in
@@ -422,7 +422,7 @@ module _ (t : ℕ) where
   same-length-9 c = c.before.before.ifs.auto.1.1.0
 
   pub returns-9 : Here lts.Need-returns-9
-  unfolding I.optItem I.qubitDeclarationStmt E.qubitTypeSpec I.whileStmt I.cal
+  unfolding I.opt_item I.qubit_declaration_stmt E.qubit_type_spec I.while_stmt I.cal
   returns-9 c =
       let ifs = c.before.before in
       let match = ifs.before.before in
@@ -482,7 +482,7 @@ module _ (t : ℕ) where
       completed3.completed3.auto.0 ∙ body.body.auto.1.1.0 ∙ expected2.expected2.auto.1.1.0 ∙ expr-bp.expr-bp.auto.1.1.0 ∙ expected.expected.auto.1.1.0 ∙ bump.bump.auto.1.1.1.0 ∙ must3.must3.auto.1.1.1.0
 
   pub returns-10 : Here lts.Need-returns-10
-  unfolding I.optItem I.qubitDeclarationStmt E.qubitTypeSpec I.whileStmt I.cal
+  unfolding I.opt_item I.qubit_declaration_stmt E.qubit_type_spec I.while_stmt I.cal
   returns-10 c =
       let completed3 = c.before.before in
       let body = completed3.before.before.before.before in
@@ -522,7 +522,7 @@ module _ (t : ℕ) where
   same-length-11 c = c.before.before.fors.auto.1.1.0
 
   pub returns-11 : Here lts.Need-returns-11
-  unfolding I.optItem I.qubitDeclarationStmt E.qubitTypeSpec I.whileStmt I.cal
+  unfolding I.opt_item I.qubit_declaration_stmt E.qubit_type_spec I.while_stmt I.cal
   returns-11 c =
       let fors = c.before.before in
       let match = fors.before.before in
@@ -549,7 +549,7 @@ module _ (t : ℕ) where
   same-length-12 c = c.before.before.def.auto.1.1.0
 
   pub returns-12 : Here lts.Need-returns-12
-  unfolding I.optItem I.qubitDeclarationStmt E.qubitTypeSpec I.whileStmt I.cal
+  unfolding I.opt_item I.qubit_declaration_stmt E.qubit_type_spec I.while_stmt I.cal
   returns-12 c =
       let def = c.before.before in
       let match = def.before.before in
@@ -576,7 +576,7 @@ module _ (t : ℕ) where
   same-length-13 c = c.before.before.dcal.auto.1.1.0
 
   pub returns-13 : Here lts.Need-returns-13
-  unfolding I.optItem I.qubitDeclarationStmt E.qubitTypeSpec I.whileStmt I.cal
+  unfolding I.opt_item I.qubit_declaration_stmt E.qubit_type_spec I.while_stmt I.cal
   returns-13 c =
       let dcal = c.before.before in
       let match = dcal.before.before in
@@ -613,7 +613,7 @@ module _ (t : ℕ) where
       completed4.completed4.auto.0 ∙ body2.body2.auto.1.1.0 ∙ bump2.bump2.auto.1.1.1.0
 
   pub returns-14 : Here lts.Need-returns-14
-  unfolding I.optItem I.qubitDeclarationStmt E.qubitTypeSpec I.whileStmt I.cal
+  unfolding I.opt_item I.qubit_declaration_stmt E.qubit_type_spec I.while_stmt I.cal
   returns-14 c =
       let completed4 = c.before.before in
       let body2 = completed4.before.before.before.before in
@@ -642,7 +642,7 @@ module _ (t : ℕ) where
   same-length-15 c = c.before.before.defcalgrammar-.auto.1.1.0
 
   pub returns-15 : Here lts.Need-returns-15
-  unfolding I.optItem I.qubitDeclarationStmt E.qubitTypeSpec I.whileStmt I.cal
+  unfolding I.opt_item I.qubit_declaration_stmt E.qubit_type_spec I.while_stmt I.cal
   returns-15 c =
       let defcalgrammar- = c.before.before in
       let match = defcalgrammar-.before.before in
@@ -669,7 +669,7 @@ module _ (t : ℕ) where
   same-length-16 c = c.before.before.more.auto.1.1.0
 
   pub returns-16 : Here lts.Need-returns-16
-  unfolding I.optItem I.qubitDeclarationStmt E.qubitTypeSpec I.whileStmt I.cal
+  unfolding I.opt_item I.qubit_declaration_stmt E.qubit_type_spec I.while_stmt I.cal
   returns-16 c =
       let more = c.before.before in
       let match = more.before.before in

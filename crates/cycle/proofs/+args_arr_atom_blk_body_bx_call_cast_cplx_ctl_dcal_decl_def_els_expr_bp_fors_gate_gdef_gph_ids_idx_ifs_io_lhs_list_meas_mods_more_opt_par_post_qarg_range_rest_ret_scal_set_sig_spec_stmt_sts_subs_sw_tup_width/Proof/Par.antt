@@ -141,7 +141,7 @@ module _ (t : ℕ) where
       completed.completed.auto.0 ∙ expr-bp3.expr-bp3.auto.1.1.0 ∙ bump2.bump2.auto.1.1.1.0 ∙ kept-expr-bp2 expr-bp2
 
   pub returns : Here lts.Need-returns
-  unfolding P.foundParam P.paramTyped E.exprOrRangeExpr
+  unfolding P.found_param P.param_typed E.expr_or_range_expr
   returns c =
       let completed = c.before.before in
       let expr-bp3 = completed.before.before.before.before.before in
@@ -182,7 +182,7 @@ module _ (t : ℕ) where
       completed2.completed2.auto.0 ∙ kept-expr-bp2 expr-bp2
 
   pub returns-2 : Here lts.Need-returns-2
-  unfolding P.foundParam P.paramTyped E.exprOrRangeExpr
+  unfolding P.found_param P.param_typed E.expr_or_range_expr
   returns-2 c =
       let completed2 = c.before.before in
       let if2 = completed2.before.before in
@@ -219,7 +219,7 @@ module _ (t : ℕ) where
       abandon2.abandon2.auto.1.0 ∙ kept-expr-bp expr-bp
 
   pub returns-3 : Here lts.Need-returns-3
-  unfolding P.foundParam P.paramTyped E.exprOrRangeExpr
+  unfolding P.found_param P.param_typed E.expr_or_range_expr
   returns-3 c =
       let abandon2 = c.before.before in
       let if1 = abandon2.before.before in
@@ -251,7 +251,7 @@ module _ (t : ℕ) where
   same-length-4 c = c.before.before.qarg.auto.1.1.0
 
   pub returns-4 : Here lts.Need-returns-4
-  unfolding P.foundParam P.paramTyped E.exprOrRangeExpr
+  unfolding P.found_param P.param_typed E.expr_or_range_expr
   returns-4 c =
       let qarg = c.before.before in
       let enum-told2 = qarg.before.before in
@@ -281,7 +281,7 @@ module _ (t : ℕ) where
       completed3.completed3.auto.0 ∙ var-name.var-name.auto.1.1.0 ∙ spec.spec.auto.1.1.0
 
   pub returns-5 : Here lts.Need-returns-5
-  unfolding P.foundParam P.paramTyped E.exprOrRangeExpr
+  unfolding P.found_param P.param_typed E.expr_or_range_expr
   returns-5 c =
       let completed3 = c.before.before in
       let var-name = completed3.before.before.before.before in
@@ -303,7 +303,7 @@ module _ (t : ℕ) where
   same-length-6 c = c.before.before.param-untyped.auto.1.1.0
 
   pub returns-6 : Here lts.Need-returns-6
-  unfolding P.foundParam P.paramTyped E.exprOrRangeExpr
+  unfolding P.found_param P.param_typed E.expr_or_range_expr
   returns-6 c =
       let param-untyped = c.before.before in
       let enum-told4 = param-untyped.before.before in

@@ -29,7 +29,7 @@ calls t = (current-reads.Asked, current-reads.Learnt, Call-Below t, call.Post, i
 
 abbrev pub Inv-loop : lts.invariant-loop
 Inv-loop kinds joints room₀ mode left block allow q₀ cm₀ blocky₀ calls₀ room q cm blocky calls = (length room ≡ length room₀) × Ran
-    (env kinds joints) (E.postfixExprRound (counted (table_of mode) left) (later (counted (table_of mode) left))) (
+    (env kinds joints) (E.postfix_expr_round (counted (table_of mode) left) (later (counted (table_of mode) left))) (
       cm₀,
       blocky₀,
       calls₀,
@@ -62,7 +62,7 @@ module _ (t : ℕ) where
       lt_of_le_of_lt (spent-does _ _ _ call.call.ensures) (falls-peeks _ _ _ (spends-nth 0) (left-told _ 0 _ current.current.ensures (λ z. omega (arith, if2.if2.true))) current.current.ensures)
 
   pub loop-again : Here lts.Need-loop-preserved
-  unfolding E.postfixExpr E.postfixExprRound
+  unfolding E.postfix_expr E.postfix_expr_round
   loop-again c =
       let call = c.before.before.before.before in
       let if2 = call.before.before in
@@ -93,7 +93,7 @@ module _ (t : ℕ) where
       lt_of_le_of_lt (spent-does _ _ _ idx.idx.ensures) (falls-peeks _ _ _ (spends-nth 0) (left-told _ 0 _ current.current.ensures (λ z. omega (arith, if3.if3.true))) current.current.ensures)
 
   pub loop-again-2 : Here lts.Need-loop-preserved-2
-  unfolding E.postfixExpr E.postfixExprRound
+  unfolding E.postfix_expr E.postfix_expr_round
   loop-again-2 c =
       let idx = c.before.before.before.before in
       let if3 = idx.before.before in
@@ -116,7 +116,7 @@ module _ (t : ℕ) where
   same_length c = c.before.before.before.before.before.before.before.loop.invariant.0
 
   pub returns : Here lts.Need-returns
-  unfolding E.postfixExpr E.postfixExprRound
+  unfolding E.postfix_expr E.postfix_expr_round
   returns c =
       let if2 = c.before.before in
       let if1 = if2.before.before in
@@ -134,7 +134,7 @@ module _ (t : ℕ) where
   same-length-2 c = c.before.before.before.loop.invariant.0
 
   pub returns-2 : Here lts.Need-returns-2
-  unfolding E.postfixExpr E.postfixExprRound
+  unfolding E.postfix_expr E.postfix_expr_round
   returns-2 c =
       let current = c.before.before in
       let loop = current.before in

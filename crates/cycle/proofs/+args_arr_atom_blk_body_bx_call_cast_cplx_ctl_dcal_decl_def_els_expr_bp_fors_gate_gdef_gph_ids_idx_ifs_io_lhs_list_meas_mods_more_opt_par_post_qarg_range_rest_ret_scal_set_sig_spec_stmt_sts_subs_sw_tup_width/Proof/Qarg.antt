@@ -69,7 +69,7 @@ module _ (t : ℕ) where
       completed.completed.auto.0 ∙ bump.bump.auto.1.1.1.0
 
   pub returns : Here lts.Need-returns
-  unfolding P.argGateCallQubit
+  unfolding P.arg_gate_call_qubit
   returns c =
       let completed = c.before.before in
       let bump = completed.before.before.before.before in
@@ -107,7 +107,7 @@ module _ (t : ℕ) where
       ids.ids.auto.1.1.0 ∙ kept-complete complete
 
   pub returns-2 : Here lts.Need-returns-2
-  unfolding P.argGateCallQubit
+  unfolding P.arg_gate_call_qubit
   returns-2 c =
       let ids = c.before.before.before in
       let if3 = ids.before.before in
@@ -134,7 +134,7 @@ module _ (t : ℕ) where
   same-length-3 c = kept-complete c.before.before.before.before.before.before
 
   pub returns-3 : Here lts.Need-returns-3
-  unfolding P.argGateCallQubit
+  unfolding P.arg_gate_call_qubit
   returns-3 c =
       let at3 = c.before in
       let complete = at3.before.before.before.before.before in
@@ -167,7 +167,7 @@ module _ (t : ℕ) where
       abandon.abandon.auto.1.0 ∙ error.error.auto.1.0
 
   pub returns-4 : Here lts.Need-returns-4
-  unfolding P.argGateCallQubit
+  unfolding P.arg_gate_call_qubit
   returns-4 c =
       let abandon = c.before.before in
       let error = abandon.before.before.before.before in

@@ -132,7 +132,7 @@ module _ (t : ℕ) where
       close.close.auto.1.1.0 ∙ expr-bp3.expr-bp3.auto.1.1.0 ∙ bump3.bump3.auto.1.1.1.0 ∙ kept-expr-bp2 expr-bp2
 
   pub returns : Here lts.Need-returns
-  unfolding E.rangeExpr
+  unfolding E.range_expr
   returns c =
       let close = c.before.before in
       let expr-bp3 = close.before.before.before.before.before in
@@ -172,7 +172,7 @@ module _ (t : ℕ) where
       close2.close2.auto.1.1.0 ∙ kept-expr-bp2 expr-bp2
 
   pub returns-2 : Here lts.Need-returns-2
-  unfolding E.rangeExpr
+  unfolding E.range_expr
   returns-2 c =
       let close2 = c.before.before in
       let if2 = close2.before.before in
@@ -212,7 +212,7 @@ module _ (t : ℕ) where
       close3.close3.auto.1.1.0 ∙ error.error.auto.1.0 ∙ kept-expr-bp expr-bp
 
   pub returns-3 : Here lts.Need-returns-3
-  unfolding E.rangeExpr
+  unfolding E.range_expr
   returns-3 c =
       let close3 = c.before.before in
       let error = close3.before.before.before.before in

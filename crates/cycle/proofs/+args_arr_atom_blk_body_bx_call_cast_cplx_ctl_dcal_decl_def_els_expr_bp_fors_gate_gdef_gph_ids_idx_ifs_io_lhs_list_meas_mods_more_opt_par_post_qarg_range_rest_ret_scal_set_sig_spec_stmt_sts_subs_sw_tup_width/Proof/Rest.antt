@@ -57,7 +57,7 @@ module _ (t : ℕ) where
       completed2.completed2.auto.0 ∙ blk.blk.auto.1.1.0 ∙ completed.completed.auto.0
 
   pub returns : Here lts.Need-returns
-  unfolding I.forRest
+  unfolding I.for_rest
   returns c =
       let completed2 = c.before.before in
       let blk = completed2.before.before.before.before.before in
@@ -88,7 +88,7 @@ module _ (t : ℕ) where
       completed3.completed3.auto.0 ∙ stmt.stmt.auto.1.1.0 ∙ completed.completed.auto.0
 
   pub returns-2 : Here lts.Need-returns-2
-  unfolding I.forRest
+  unfolding I.for_rest
   returns-2 c =
       let completed3 = c.before.before in
       let stmt = completed3.before.before.before.before in

@@ -83,7 +83,7 @@ module _ (t : ℕ) where
       complete.complete.auto.1.0 ∙ expr-bp.expr-bp.auto.1.1.0 ∙ kept-bump-any bump-any
 
   pub returns : Here lts.Need-returns
-  unfolding A.returnExpr
+  unfolding A.return_expr
   returns c =
       let complete = c.before.before in
       let expr-bp = complete.before.before.before.before.before in
@@ -111,7 +111,7 @@ module _ (t : ℕ) where
       complete2.complete2.auto.1.0 ∙ kept-bump-any bump-any
 
   pub returns-2 : Here lts.Need-returns-2
-  unfolding A.returnExpr
+  unfolding A.return_expr
   returns-2 c =
       let complete2 = c.before.before in
       let if1 = complete2.before.before in

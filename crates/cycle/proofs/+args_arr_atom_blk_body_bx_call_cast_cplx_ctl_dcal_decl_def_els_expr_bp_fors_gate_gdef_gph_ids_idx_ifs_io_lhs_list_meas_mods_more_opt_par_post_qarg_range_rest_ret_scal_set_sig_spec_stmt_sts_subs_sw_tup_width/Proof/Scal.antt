@@ -60,7 +60,7 @@ module _ (t : ℕ) where
   same_length c = c.before.before.cplx.auto.1.1.0
 
   pub returns : Here lts.Need-returns
-  unfolding E.nonArrayTypeSpec
+  unfolding E.non_array_type_spec
   returns c =
       let cplx = c.before.before in
       let if1 = cplx.before.before in
@@ -96,7 +96,7 @@ module _ (t : ℕ) where
       completed.completed.auto.0 ∙ width.width.auto.1.1.0 ∙ kept-type-name type-name
 
   pub returns-2 : Here lts.Need-returns-2
-  unfolding E.nonArrayTypeSpec
+  unfolding E.non_array_type_spec
   returns-2 c =
       let completed = c.before.before in
       let width = completed.before.before.before.before in
@@ -126,7 +126,7 @@ module _ (t : ℕ) where
       completed2.completed2.auto.0 ∙ kept-type-name type-name
 
   pub returns-3 : Here lts.Need-returns-3
-  unfolding E.nonArrayTypeSpec
+  unfolding E.non_array_type_spec
   returns-3 c =
       let completed2 = c.before.before in
       let if2 = completed2.before.before in

@@ -69,7 +69,7 @@ module _ (t : ℕ) where
       start.start.auto.1.0 ∙ must.must.auto.1.1.1.0
 
   pub returns : Here lts.Need-returns
-  unfolding E.setExpression
+  unfolding E.set_expression
   returns c =
       let completed = c.before.before in
       let bump2 = completed.before.before.before.before in

@@ -118,7 +118,7 @@ module _ (t : ℕ) where
       kept-scalar-return scalar-return
 
   pub returns : Here lts.Need-returns
-  unfolding I.signature G.optRetType
+  unfolding I.signature G.opt_ret_type
   returns c =
       let completed2 = c.before.before in
       let body = completed2.before.before.before.before in
@@ -167,7 +167,7 @@ module _ (t : ℕ) where
       scalar-return
 
   pub returns-2 : Here lts.Need-returns-2
-  unfolding I.signature G.optRetType
+  unfolding I.signature G.opt_ret_type
   returns-2 c =
       let completed3 = c.before.before in
       let body2 = completed3.before.before.before.before in
@@ -208,7 +208,7 @@ module _ (t : ℕ) where
       completed4.completed4.auto.0 ∙ body3.body3.auto.1.1.0
 
   pub returns-3 : Here lts.Need-returns-3
-  unfolding I.signature G.optRetType
+  unfolding I.signature G.opt_ret_type
   returns-3 c =
       let completed4 = c.before.before in
       let body3 = completed4.before.before.before.before in

@@ -11,8 +11,8 @@ use Rattle.runtime.specs.State.{view}
 use Rattle.operators.specs.Operators.{table_of}
 use Rattle.grammar.specs.Entry.{counted}
 use Prim.Native.Nat.{ℕ}
-use Rattle.cycle.proofs.Depth.{typeSpec-deeper}
-use Rattle.grammar.proofs.Spends.{exprBp-spends}
+use Rattle.cycle.proofs.Depth.{type_spec-deeper}
+use Rattle.grammar.proofs.Spends.{expr_bp-spends}
 use Rattle.runtime.specs.Acts as acts
 use Rattle.grammar.specs.Expressions as E
 use Rattle.runtime.proofs.parser.Parser.at.Reads as at_reads
@@ -63,7 +63,7 @@ calls t = (
 )
 
 abbrev pub Inv-loop : lts.invariant-loop
-Inv-loop kinds joints room₀ mode left d m q₀ room q = (length room ≡ length room₀) × Ran (env kinds joints) (E.arrayTypeSpecRound
+Inv-loop kinds joints room₀ mode left d m q₀ room q = (length room ≡ length room₀) × Ran (env kinds joints) (E.array_type_spec_round
     (counted (table_of mode) d)) tt (view q₀ room₀) tt (view q room)
 
 abbrev pub μ-loop : lts.decreases-loop
@@ -174,7 +174,7 @@ module _ (t : ℕ) where
       complete.complete.auto.1.0 ∙ bump-any2.bump-any2.auto.1.1.1.0 ∙ kept-expr-bp expr-bp
 
   pub returns-2 : Here lts.Need-returns-2
-  unfolding E.typeSpec E.arrayTypeSpec E.arrayTypeSpecRound
+  unfolding E.type_spec E.array_type_spec E.array_type_spec_round
   returns-2 c =
       let complete = c.before.before.before in
       let bump-any2 = complete.before.before.before.before in
@@ -192,7 +192,7 @@ module _ (t : ℕ) where
       let if2 = must.before.before in
       let at = if2.before in
       let if1 = at.before in
-      typeSpec-deeper _ _ _ _ if1.if1.false
+      type_spec-deeper _ _ _ _ if1.if1.false
       (see _ _ _ _ at.at.ensures
       (rw if2.if2.true
       (then _ _ _ _ must.must.ensures
@@ -228,7 +228,7 @@ module _ (t : ℕ) where
       complete2.complete2.auto.1.0 ∙ expect3.expect3.auto.1.1.1.0 ∙ kept-expr-bp expr-bp
 
   pub returns-3 : Here lts.Need-returns-3
-  unfolding E.typeSpec E.arrayTypeSpec E.arrayTypeSpecRound
+  unfolding E.type_spec E.array_type_spec E.array_type_spec_round
   returns-3 c =
       let complete2 = c.before.before.before in
       let if4 = complete2.before.before in
@@ -248,7 +248,7 @@ module _ (t : ℕ) where
       let if2 = must.before.before in
       let at = if2.before in
       let if1 = at.before in
-      typeSpec-deeper _ _ _ _ if1.if1.false
+      type_spec-deeper _ _ _ _ if1.if1.false
       (see _ _ _ _ at.at.ensures
       (rw if2.if2.true
       (then _ _ _ _ must.must.ensures
@@ -274,7 +274,7 @@ module _ (t : ℕ) where
       let is-refused = c.before in
       let expect3 = is-refused.before.before.before.before in
       let expr-bp = expect3.before.before.before.before.before.before.before in
-      lt_of_le_of_lt (spent-does _ _ _ expect3.expect3.ensures) (falls _ _ _ (exprBp-spends _ _ _ _ _) (omega (
+      lt_of_le_of_lt (spent-does _ _ _ expect3.expect3.ensures) (falls _ _ _ (expr_bp-spends _ _ _ _ _) (omega (
         arith,
         left-asked expect3.expect3.result.p (sym is-refused.is-refused.ensures ∙ c.if4.false),
         spent-does _ _ _
@@ -283,7 +283,7 @@ module _ (t : ℕ) where
       )) expr-bp.expr-bp.ensures)
 
   pub loop-again : Here lts.Need-loop-preserved
-  unfolding E.typeSpec E.arrayTypeSpec E.arrayTypeSpecRound
+  unfolding E.type_spec E.array_type_spec E.array_type_spec_round
   loop-again c =
       let is-refused = c.before in
       let expect3 = is-refused.before.before.before.before in
@@ -300,7 +300,7 @@ module _ (t : ℕ) where
             (ask _ _ _ is-refused.is-refused.ensures
             (rw c.if4.false
             (ends _ _ _ expect3.expect3.ensures.fit)))))))
-            (lt_of_le_of_lt (spent-does _ _ _ expect3.expect3.ensures) (falls _ _ _ (exprBp-spends _ _ _ _ _) (omega (
+            (lt_of_le_of_lt (spent-does _ _ _ expect3.expect3.ensures) (falls _ _ _ (expr_bp-spends _ _ _ _ _) (omega (
               arith,
               left-asked expect3.expect3.result.p (sym is-refused.is-refused.ensures ∙ c.if4.false),
               spent-does _ _ _
@@ -319,13 +319,13 @@ module _ (t : ℕ) where
   same-length-4 c = c.before.before.scal.auto.1.1.0
 
   pub returns-4 : Here lts.Need-returns-4
-  unfolding E.typeSpec E.arrayTypeSpec E.arrayTypeSpecRound
+  unfolding E.type_spec E.array_type_spec E.array_type_spec_round
   returns-4 c =
       let scal = c.before.before in
       let if2 = scal.before.before in
       let at = if2.before in
       let if1 = at.before in
-      typeSpec-deeper _ _ _ _ if1.if1.false
+      type_spec-deeper _ _ _ _ if1.if1.false
       (see _ _ _ _ at.at.ensures
       (rw if2.if2.false
       scal.scal.ensures))

@@ -122,7 +122,7 @@ module _ (t : ℕ) where
   same-length-2 c = c.before.before.before.before.eat.auto.1.1.1.0
 
   pub returns-2 : Here lts.Need-returns-2
-  unfolding E.stmt E.letStmt E.no_item
+  unfolding E.stmt E.let_stmt E.no_item
   returns-2 c =
       let eat = c.before.before.before.before in
       let if1 = eat.before.before in
@@ -168,7 +168,7 @@ module _ (t : ℕ) where
       close.close.auto.1.1.0 ∙ expr-bp.expr-bp.auto.1.1.0 ∙ expected2.expected2.auto.1.1.0 ∙ expected.expected.auto.1.1.0 ∙ bump.bump.auto.1.1.1.0 ∙ start.start.auto.1.0 ∙ eat.eat.auto.1.1.1.0
 
   pub returns-3 : Here lts.Need-returns-3
-  unfolding E.stmt E.letStmt E.no_item
+  unfolding E.stmt E.let_stmt E.no_item
   returns-3 c =
       let close = c.before.before in
       let expr-bp = close.before.before.before.before.before in
@@ -225,7 +225,7 @@ module _ (t : ℕ) where
       completed.completed.auto.0 ∙ bump-any.bump-any.auto.1.1.1.0 ∙ kept-opt opt
 
   pub returns-4 : Here lts.Need-returns-4
-  unfolding E.stmt E.letStmt E.no_item
+  unfolding E.stmt E.let_stmt E.no_item
   returns-4 c =
       let completed = c.before.before in
       let bump-any = completed.before.before.before.before in
@@ -269,7 +269,7 @@ module _ (t : ℕ) where
       completed2.completed2.auto.0 ∙ bump-any2.bump-any2.auto.1.1.1.0 ∙ kept-opt opt
 
   pub returns-5 : Here lts.Need-returns-5
-  unfolding E.stmt E.letStmt E.no_item
+  unfolding E.stmt E.let_stmt E.no_item
   returns-5 c =
       let completed2 = c.before.before in
       let bump-any2 = completed2.before.before.before.before in
@@ -317,7 +317,7 @@ module _ (t : ℕ) where
       abandon.abandon.auto.1.0 ∙ err-and-bump.err-and-bump.auto.1.1.1.0 ∙ kept-opt opt
 
   pub returns-6 : Here lts.Need-returns-6
-  unfolding E.stmt E.letStmt E.no_item
+  unfolding E.stmt E.let_stmt E.no_item
   returns-6 c =
       let abandon = c.before.before in
       let err-and-bump = abandon.before.before.before.before in
@@ -372,7 +372,7 @@ module _ (t : ℕ) where
   same-length-7 c = kept-opt c.before.before.before.before.before
 
   pub returns-7 : Here lts.Need-returns-7
-  unfolding E.stmt E.letStmt E.no_item
+  unfolding E.stmt E.let_stmt E.no_item
   returns-7 c =
       let opt = c.before.before.before.before.before in
       let start2 = opt.before.before.before.before.before in
@@ -395,7 +395,7 @@ module _ (t : ℕ) where
   same-length-8 c = kept-expr-bp2 c.before.before.before.before.before
 
   pub returns-8 : Here lts.Need-returns-8
-  unfolding E.stmt E.letStmt E.no_item
+  unfolding E.stmt E.let_stmt E.no_item
   returns-8 c =
       let expr-bp2 = c.before.before.before.before.before in
       let if6 = expr-bp2.before.before in
@@ -437,7 +437,7 @@ module _ (t : ℕ) where
       stmt-end.stmt-end.auto.1.1.0 ∙ kept-expr-bp2 expr-bp2
 
   pub returns-9 : Here lts.Need-returns-9
-  unfolding E.stmt E.letStmt E.no_item
+  unfolding E.stmt E.let_stmt E.no_item
   returns-9 c =
       let stmt-end = c.before.before in
       let g = stmt-end.before.before.before in

@@ -26,7 +26,7 @@ abbrev pub calls : ℕ → lts.Claims
 calls t = (goes-on-reads.Asked, goes-on-reads.Learnt, stmt-below t, stmt.Post)
 
 abbrev pub Inv-loop : lts.invariant-loop
-Inv-loop kinds joints room₀ mode left q₀ room q = (length room ≡ length room₀) × Ran (env kinds joints) (E.exprBlockContentsRound
+Inv-loop kinds joints room₀ mode left q₀ room q = (length room ≡ length room₀) × Ran (env kinds joints) (E.expr_block_contents_round
     (counted (table_of mode) left)) tt (view q₀ room₀) tt (view q room)
 
 abbrev pub μ-loop : lts.decreases-loop
@@ -56,7 +56,7 @@ module _ (t : ℕ) where
       falls _ _ _ (stmt-spends _ _) (left-goes _ _ _ (sym goes_on.goes_on.ensures ∙ if1.if1.true)) stmt.stmt.ensures
 
   pub loop-again : Here lts.Need-loop-preserved
-  unfolding E.exprBlockContents E.exprBlockContentsRound
+  unfolding E.expr_block_contents E.expr_block_contents_round
   loop-again c =
       let stmt = c.before.before in
       let if1 = stmt.before.before in
@@ -75,7 +75,7 @@ module _ (t : ℕ) where
   same_length c = c.before.before.loop.invariant.0
 
   pub returns : Here lts.Need-returns
-  unfolding E.exprBlockContents E.exprBlockContentsRound
+  unfolding E.expr_block_contents E.expr_block_contents_round
   returns c =
       let goes_on = c.before in
       let loop = goes_on.before in

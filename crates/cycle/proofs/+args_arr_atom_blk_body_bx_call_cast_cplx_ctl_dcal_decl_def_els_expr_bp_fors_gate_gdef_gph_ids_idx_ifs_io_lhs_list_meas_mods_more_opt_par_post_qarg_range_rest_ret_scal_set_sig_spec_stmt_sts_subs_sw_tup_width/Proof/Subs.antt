@@ -88,7 +88,7 @@ module _ (t : ℕ) where
       close.close.auto.1.1.0 ∙ set.set.auto.1.1.0 ∙ kept-expected expected
 
   pub returns : Here lts.Need-returns
-  unfolding E.indexOperator
+  unfolding E.index_operator
   returns c =
       let close = c.before.before in
       let set = close.before.before.before.before in
@@ -123,7 +123,7 @@ module _ (t : ℕ) where
       close2.close2.auto.1.1.0 ∙ els.els.auto.1.1.0 ∙ kept-expected expected
 
   pub returns-2 : Here lts.Need-returns-2
-  unfolding E.indexOperator
+  unfolding E.index_operator
   returns-2 c =
       let close2 = c.before.before in
       let els = close2.before.before.before.before in

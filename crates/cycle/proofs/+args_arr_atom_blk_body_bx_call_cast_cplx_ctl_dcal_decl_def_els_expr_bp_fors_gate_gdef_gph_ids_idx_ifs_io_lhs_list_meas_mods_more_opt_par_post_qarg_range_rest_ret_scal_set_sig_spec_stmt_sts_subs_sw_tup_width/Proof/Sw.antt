@@ -65,7 +65,7 @@ calls t = (
 )
 
 abbrev pub Inv-loop : lts.invariant-loop
-Inv-loop kinds joints room₀ mode left m q₀ room q = (length room ≡ length room₀) × Ran (env kinds joints) (I.switchCaseStmtRound
+Inv-loop kinds joints room₀ mode left m q₀ room q = (length room ≡ length room₀) × Ran (env kinds joints) (I.switch_case_stmt_round
     (counted (table_of mode) left)) tt (view q₀ room₀) tt (view q room)
 
 abbrev pub μ-loop : lts.decreases-loop
@@ -174,7 +174,7 @@ module _ (t : ℕ) where
       omega arith) (sym at.at.ensures ∙ if1.if1.true)) (spent-steps _ _ start.start.ensures) bump2.bump2.ensures)))
 
   pub loop-again : Here lts.Need-loop-preserved
-  unfolding I.switchCaseStmt I.switchCaseStmtRound
+  unfolding I.switch_case_stmt I.switch_case_stmt_round
   loop-again c =
       let completed = c.before.before in
       let body = completed.before.before.before.before in
@@ -219,7 +219,7 @@ module _ (t : ℕ) where
       close.close.auto.1.1.0 ∙ body2.body2.auto.1.1.0 ∙ kept-eat eat
 
   pub returns : Here lts.Need-returns
-  unfolding I.switchCaseStmt I.switchCaseStmtRound
+  unfolding I.switch_case_stmt I.switch_case_stmt_round
   returns c =
       let close = c.before.before in
       let body2 = close.before.before.before.before in
@@ -262,7 +262,7 @@ module _ (t : ℕ) where
       close2.close2.auto.1.1.0 ∙ kept-eat eat
 
   pub returns-2 : Here lts.Need-returns-2
-  unfolding I.switchCaseStmt I.switchCaseStmtRound
+  unfolding I.switch_case_stmt I.switch_case_stmt_round
   returns-2 c =
       let close2 = c.before.before in
       let if2 = close2.before.before in

@@ -12,7 +12,7 @@ use Rattle.runtime.specs.State.{view}
 use Rattle.operators.specs.Operators.{table_of}
 use Rattle.grammar.specs.Entry.{counted}
 use Prim.Native.Nat.{ℕ}
-use Rattle.grammar.proofs.Spends.{exprBp-spends}
+use Rattle.grammar.proofs.Spends.{expr_bp-spends}
 use Rattle.runtime.specs.Acts as acts
 use Rattle.grammar.specs.Atom as A
 use Rattle.grammar.proofs.expected.Reads as expected-reads
@@ -53,7 +53,7 @@ calls t = (
 
 abbrev pub Inv-loop : lts.invariant-loop
 Inv-loop kinds joints room₀ mode left m q₀ comma₀ saw₀ room q comma saw = (length room ≡ length room₀) × Ran (env kinds joints)
-    (A.tupleExprRound (counted (table_of mode) left)) (saw₀, comma₀) (view q₀ room₀) (saw, comma) (view q room)
+    (A.tuple_expr_round (counted (table_of mode) left)) (saw₀, comma₀) (view q₀ room₀) (saw, comma) (view q room)
 
 abbrev pub μ-loop : lts.decreases-loop
 μ-loop kinds joints room₀ mode left m q₀ comma₀ saw₀ room q comma saw = acts.left q
@@ -124,7 +124,7 @@ module _ (t : ℕ) where
       tuple-end.tuple-end.auto.1.1.0 ∙ expr-bp.expr-bp.auto.1.1.0 ∙ kept-loop loop
 
   pub returns : Here lts.Need-returns
-  unfolding A.tupleExpr A.tupleExprRound
+  unfolding A.tuple_expr A.tuple_expr_round
   returns c =
       let tuple-end = c.before.before in
       let enum-told2 = tuple-end.before.before in
@@ -157,11 +157,11 @@ module _ (t : ℕ) where
       let expr-bp = tuple-next.before.before.before.before.before.before.before in
       let if1 = expr-bp.before.before in
       let goes_on = if1.before in
-      lt_of_le_of_lt (spent-does _ _ _ tuple-next.tuple-next.ensures) (falls _ _ _ (exprBp-spends _ _ _ _ _) (left-goes _ _ _
+      lt_of_le_of_lt (spent-does _ _ _ tuple-next.tuple-next.ensures) (falls _ _ _ (expr_bp-spends _ _ _ _ _) (left-goes _ _ _
       (sym goes_on.goes_on.ensures ∙ if1.if1.true)) expr-bp.expr-bp.ensures)
 
   pub loop-again : Here lts.Need-loop-preserved
-  unfolding A.tupleExpr A.tupleExprRound
+  unfolding A.tuple_expr A.tuple_expr_round
   loop-again c =
       let tuple-next = c.before.before.before in
       let enum_told = tuple-next.before.before in
@@ -177,7 +177,7 @@ module _ (t : ℕ) where
             (rw enum_told.enum_told.given.1
             (then _ _ _ _ tuple-next.tuple-next.ensures
             (ends _ _ _ tuple-next.tuple-next.ensures.fit))))))
-            (lt_of_le_of_lt (spent-does _ _ _ tuple-next.tuple-next.ensures) (falls _ _ _ (exprBp-spends _ _ _ _ _) (left-goes _ _ _
+            (lt_of_le_of_lt (spent-does _ _ _ tuple-next.tuple-next.ensures) (falls _ _ _ (expr_bp-spends _ _ _ _ _) (left-goes _ _ _
             (sym goes_on.goes_on.ensures ∙ if1.if1.true)) expr-bp.expr-bp.ensures)),
       )
 
@@ -191,7 +191,7 @@ module _ (t : ℕ) where
       tuple-end2.tuple-end2.auto.1.1.0 ∙ kept-loop loop
 
   pub returns-2 : Here lts.Need-returns-2
-  unfolding A.tupleExpr A.tupleExprRound
+  unfolding A.tuple_expr A.tuple_expr_round
   returns-2 c =
       let tuple-end2 = c.before.before in
       let if1 = tuple-end2.before.before in

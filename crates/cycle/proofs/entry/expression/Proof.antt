@@ -13,7 +13,7 @@ same_length : tie.Need-same-length
 same_length c = c.before.before.before.expr-bp.auto.1.1.0
 
 returns : tie.Need-returns
-unfolding T.oneExpression
+unfolding T.one_expression
 returns c = then _ _ _ _ c.before.before.before.expr-bp.ensures
     (ends _ _ _ c.before.before.before.expr-bp.ensures.fit)
 

@@ -11,7 +11,7 @@ same_length : tie.Need-same-length
 same_length c = c.before.before.item-at.auto.1.1.0
 
 returns : tie.Need-returns
-unfolding T.oneItem
+unfolding T.one_item
 returns c = c.before.before.item-at.ensures
 
 pub item-spec : {M : Type 1} → statement M

@@ -32,7 +32,7 @@ same_length c =
     err-and-bump.err-and-bump.auto.1.1.1.0 ∙ opt.opt.auto.1.1.0 ∙ start.start.auto.1.0
 
 returns : tie.Need-returns
-unfolding I.item I.afterItem I.unmatched one_of
+unfolding I.item I.after_item I.unmatched one_of
 returns c =
     let err-and-bump = c.before.before in
     let if1 = err-and-bump.before.before in
@@ -80,7 +80,7 @@ same-length-2 c =
     complete.complete.auto.1.0 ∙ bump.bump.auto.1.1.1.0 ∙ error.error.auto.1.0 ∙ start2.start2.auto.1.0 ∙ abandon.abandon.auto.1.0 ∙ opt.opt.auto.1.1.0 ∙ start.start.auto.1.0
 
 returns-2 : tie.Need-returns-2
-unfolding I.item I.afterItem I.unmatched one_of
+unfolding I.item I.after_item I.unmatched one_of
 returns-2 c =
     let complete = c.before.before.before in
     let bump = complete.before.before.before.before in
@@ -115,7 +115,7 @@ same-length-3 c =
     abandon2.abandon2.auto.1.0 ∙ opt.opt.kept.1.1.0 ∙ start.start.kept.1.0
 
 returns-3 : tie.Need-returns-3
-unfolding I.item I.afterItem I.unmatched one_of
+unfolding I.item I.after_item I.unmatched one_of
 returns-3 c =
     let abandon2 = c.before.before in
     let if3 = abandon2.before.before in
@@ -145,7 +145,7 @@ same-length-4 c =
     opt.opt.auto.1.1.0 ∙ start.start.auto.1.0
 
 returns-4 : tie.Need-returns-4
-unfolding I.item I.afterItem I.unmatched one_of
+unfolding I.item I.after_item I.unmatched one_of
 returns-4 c =
     let at = c.before in
     let enum_told = at.before in
@@ -167,7 +167,7 @@ same-length-5 c =
     sts.sts.auto.1.1.0 ∙ abandon3.abandon3.auto.1.0 ∙ opt.opt.kept.1.1.0 ∙ start.start.kept.1.0
 
 returns-5 : tie.Need-returns-5
-unfolding I.item I.afterItem I.unmatched one_of
+unfolding I.item I.after_item I.unmatched one_of
 returns-5 c =
     let sts = c.before.before in
     let abandon3 = sts.before.before.before.before in

@@ -23,7 +23,7 @@ same_length c =
     complete.complete.auto.1.0 ∙ source-file-contents.source-file-contents.auto.1.1.0 ∙ start.start.auto.1.0
 
 returns : tie.Need-returns
-unfolding T.sourceFile
+unfolding T.source_file
 returns c =
     let complete = c.before.before.before in
     let source-file-contents = complete.before.before.before.before in

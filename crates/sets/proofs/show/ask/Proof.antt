@@ -6,13 +6,13 @@ use Prim.Native.Nat.{ℕ, ◌-◌, ◌≤◌}
 use native.Mathlib.Omega.{arith}
 use lib.ListN.{length}
 use Rattle.kinds.specs.Membership.{one_of, count, number}
-use Rattle.kinds.specs.Sets.{kindsOf}
+use Rattle.kinds.specs.Sets.{kinds_of}
 use Rattle.kinds.proofs.Counts.{count_next, count-le, listed-count}
 use Rattle.sets.proofs.show.ask.Statement.{statement}
 use Rattle.sets.proofs.show.ask.Tie as tie
 
 abbrev invariant-loop : tie.invariant-loop
-invariant-loop set words listed₀ same₀ n₀ listed same n = (n ≤ 65536) × (listed ≡ count n (one_of (kindsOf set))) × (same ≡ true)
+invariant-loop set words listed₀ same₀ n₀ listed same n = (n ≤ 65536) × (listed ≡ count n (one_of (kinds_of set))) × (same ≡ true)
 
 abbrev decreases-loop : tie.decreases-loop
 decreases-loop set words listed₀ same₀ n₀ listed same n = 65536 - n
@@ -48,7 +48,7 @@ one-requires c κs = search rules
 add-listed : tie.Need-overflow-add-listed invariant-loop decreases-loop
 add-listed c =
     let n = c.before.before.before.loop.n in
-    let f = one_of (kindsOf c.before.before.before.before.before.args.set) in
+    let f = one_of (kinds_of c.before.before.before.before.before.args.set) in
     record { fits = omega (arith, count-le n f, c.before.before.before.loop.invariant.0, c.before.before.before.loop.invariant.1, bool_le c.before.has.result, c.one.ensures) }
 
 contains-requires : tie.Need-contains-requires invariant-loop decreases-loop
@@ -63,7 +63,7 @@ loop-less c = omega (arith, c.before.before.before.loop-test.true)
 loop-again : tie.Need-loop-preserved invariant-loop decreases-loop
 loop-again c =
     let n = c.before.before.before.before.loop.n in
-    let f = one_of (kindsOf c.before.before.before.before.before.before.args.set) in
+    let f = one_of (kinds_of c.before.before.before.before.before.before.args.set) in
     let inv = c.before.before.before.before.loop.invariant in
     let has : c.before.before.has.result ≡ f n = c.before.before.has.ensures in
     let words : c.contains.result ≡ f n = c.contains.ensures ∙ ap (λ (g : ℕ → Bool). g n) c.before.before.before.before.before.set-of.ensures in
@@ -78,7 +78,7 @@ returns c =
     let e = c.before.before.set-of.ensures in
     let n : length ws ≡ 4 = search rules in
     let end : c.before.loop.n ≡ 65536 = omega (arith, inv.0, c.loop-test.false) in
-    (inv.1 ∙ ap (λ (k : ℕ). count k (one_of (kindsOf set))) end ∙ sym (ap number e) ∙ listed-count ws (kindsOf set) n e, inv.2)
+    (inv.1 ∙ ap (λ (k : ℕ). count k (one_of (kinds_of set))) end ∙ sym (ap number e) ∙ listed-count ws (kinds_of set) n e, inv.2)
 
 pub ask-spec : {M : Type 1} → statement M
 ask-spec =

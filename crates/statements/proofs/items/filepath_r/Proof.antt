@@ -26,7 +26,7 @@ same_length c =
     complete.complete.auto.1.0 ∙ bump.bump.auto.1.1.1.0 ∙ start.start.auto.1.0
 
 returns : tie.Need-returns
-unfolding I.filepathR
+unfolding I.filepath_r
 returns c =
     let complete = c.before.before.before in
     let bump = complete.before.before.before.before in
@@ -47,7 +47,7 @@ same-length-2 : tie.Need-same-length-2
 same-length-2 c = c.before.before.err-recover.auto.1.1.1.0
 
 returns-2 : tie.Need-returns-2
-unfolding I.filepathR
+unfolding I.filepath_r
 returns-2 c =
     let err-recover = c.before.before in
     let if1 = err-recover.before.before in

@@ -14,7 +14,7 @@ is-classical-type-requires : tie.Need-is-classical-type-requires
 is-classical-type-requires c κs = search rules
 
 returns : tie.Need-returns
-unfolding I.ioType
+unfolding I.io_type
 returns c =
     let is-classical-type = c.before in
     let current = is-classical-type.before.before in
@@ -29,7 +29,7 @@ same_length : tie.Need-same-length
 same_length c = c.before.before.error.auto.1.0
 
 returns-2 : tie.Need-returns-2
-unfolding I.ioType
+unfolding I.io_type
 returns-2 c =
     let error = c.before.before in
     let if1 = error.before.before in

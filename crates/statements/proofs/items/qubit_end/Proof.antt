@@ -27,7 +27,7 @@ same_length c =
     complete.complete.auto.1.0 ∙ expect.expect.auto.1.1.1.0 ∙ hardware-qubit.hardware-qubit.auto.1.1.0
 
 returns : tie.Need-returns
-unfolding I.qubitEnd
+unfolding I.qubit_end
 returns c =
     let complete = c.before.before.before in
     let expect = complete.before.before.before.before.before in
@@ -59,7 +59,7 @@ same-length-2 c =
     complete2.complete2.auto.1.0 ∙ expect2.expect2.auto.1.1.1.0 ∙ var-name.var-name.auto.1.1.0
 
 returns-2 : tie.Need-returns-2
-unfolding I.qubitEnd
+unfolding I.qubit_end
 returns-2 c =
     let complete2 = c.before.before.before in
     let expect2 = complete2.before.before.before.before.before in

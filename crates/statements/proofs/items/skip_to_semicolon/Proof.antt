@@ -6,7 +6,7 @@ use Rattle.statements.proofs.items.skip_to_semicolon.Statement.{statement}
 use Rattle.statements.proofs.items.skip_to_semicolon.Tie as tie
 
 returns : tie.Need-returns
-unfolding I.skipToSemicolon
+unfolding I.skip_to_semicolon
 returns c = rw c.if1.true
     (ends _ _ _ c.before.before.before.before.requires)
 
@@ -14,7 +14,7 @@ at-requires : tie.Need-at-requires
 at-requires c κs = c.before.before.before.before.requires
 
 returns-2 : tie.Need-returns-2
-unfolding I.skipToSemicolon
+unfolding I.skip_to_semicolon
 returns-2 c =
     let at = c.before in
     let if1 = at.before in
@@ -31,7 +31,7 @@ same_length : tie.Need-same-length
 same_length c = c.before.before.bump-any.auto.1.1.1.0
 
 returns-3 : tie.Need-returns-3
-unfolding I.skipToSemicolon
+unfolding I.skip_to_semicolon
 returns-3 c =
     let bump-any = c.before.before in
     let if2 = bump-any.before.before in

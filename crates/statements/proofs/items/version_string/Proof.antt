@@ -23,7 +23,7 @@ same_length c =
     complete.complete.auto.1.0 ∙ version-.version-.auto.1.1.0 ∙ bump.bump.auto.1.1.1.0
 
 returns : tie.Need-returns
-unfolding I.versionString
+unfolding I.version_string
 returns c =
     let complete = c.before.before.before in
     let version- = complete.before.before.before.before in

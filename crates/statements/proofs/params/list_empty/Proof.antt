@@ -13,7 +13,7 @@ same_length : tie.Need-same-length
 same_length c = c.before.before.error.auto.1.0
 
 returns : tie.Need-returns
-unfolding P.listEmpty
+unfolding P.list_empty
 returns c =
     let error = c.before.before in
     let if2 = error.before.before in
@@ -23,7 +23,7 @@ returns c =
     (any _ _ _ error.error.ensures)))
 
 returns-2 : tie.Need-returns-2
-unfolding P.listEmpty
+unfolding P.list_empty
 returns-2 c =
     let if1 = c.before in
     let entry = if1.before.before in
@@ -32,7 +32,7 @@ returns-2 c =
     (ends _ _ _ entry.requires)))
 
 returns-3 : tie.Need-returns-3
-unfolding P.listEmpty
+unfolding P.list_empty
 returns-3 c = all _ _ (λ e. rw c.if1.false
     (ends _ _ _ c.before.before.requires))
 

@@ -24,7 +24,7 @@ same_length c =
     complete.complete.auto.1.0 ∙ expect.expect.auto.1.1.1.0 ∙ list-empty.list-empty.auto.0
 
 returns : tie.Need-returns
-unfolding P.listEnd
+unfolding P.list_end
 returns c =
     let complete = c.before.before.before in
     let expect = complete.before.before.before.before.before in
@@ -47,7 +47,7 @@ same-length-2 c =
     complete2.complete2.auto.1.0 ∙ list-empty.list-empty.auto.0
 
 returns-2 : tie.Need-returns-2
-unfolding P.listEnd
+unfolding P.list_end
 returns-2 c =
     let complete2 = c.before.before.before in
     let if1 = complete2.before.before in

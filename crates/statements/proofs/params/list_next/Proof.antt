@@ -10,7 +10,7 @@ at-list-end-requires : tie.Need-at-list-end-requires
 at-list-end-requires c κs = c.before.before.before.requires
 
 returns : tie.Need-returns
-unfolding P.listNext
+unfolding P.list_next
 returns c =
     let at-list-end = c.before in
     let entry = at-list-end.before.before.before.before in
@@ -28,7 +28,7 @@ same_length : tie.Need-same-length
 same_length c = c.before.before.bump.auto.1.1.1.0
 
 returns-2 : tie.Need-returns-2
-unfolding P.listNext
+unfolding P.list_next
 returns-2 c =
     let bump = c.before.before in
     let if2 = bump.before.before in
@@ -52,7 +52,7 @@ same-length-2 : tie.Need-same-length-2
 same-length-2 c = c.before.before.error.auto.1.0
 
 returns-3 : tie.Need-returns-3
-unfolding P.listNext
+unfolding P.list_next
 returns-3 c =
     let error = c.before.before in
     let if3 = error.before.before in
@@ -71,7 +71,7 @@ returns-3 c =
     (ends _ _ _ error.error.ensures.fit)))))))
 
 returns-4 : tie.Need-returns-4
-unfolding P.listNext
+unfolding P.list_next
 returns-4 c =
     let at-ts = c.before.before in
     let if2 = at-ts.before in

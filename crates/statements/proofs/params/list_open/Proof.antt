@@ -20,7 +20,7 @@ same_length c =
     bump.bump.auto.1.1.1.0 ∙ start.start.auto.1.0
 
 returns : tie.Need-returns
-unfolding P.listOpen
+unfolding P.list_open
 returns c =
     let bump = c.before.before in
     let if1 = bump.before.before in
@@ -35,7 +35,7 @@ same-length-2 : tie.Need-same-length-2
 same-length-2 c = c.before.before.before.before.start.auto.1.0
 
 returns-2 : tie.Need-returns-2
-unfolding P.listOpen
+unfolding P.list_open
 returns-2 c = simp (assoc, cond-bind, done-bind)
     (step _ _ _ _ c.before.before.before.before.start.ensures
     (rw c.if1.false

@@ -14,7 +14,7 @@ is-type-requires : tie.Need-is-type-requires
 is-type-requires c κs = search rules
 
 returns : tie.Need-returns
-unfolding P.paramAhead
+unfolding P.param_ahead
 returns c =
     let is-type = c.before in
     let current = is-type.before.before in
@@ -26,7 +26,7 @@ at-ts-requires : tie.Need-at-ts-requires
 at-ts-requires c κs = c.before.before.before.current.ensures.fit
 
 returns-2 : tie.Need-returns-2
-unfolding P.paramAhead
+unfolding P.param_ahead
 returns-2 c =
     let if1 = c.before in
     let is-type = if1.before in

@@ -22,7 +22,7 @@ same_length c =
     complete.complete.auto.1.0 ∙ bump.bump.auto.1.1.1.0
 
 returns : tie.Need-returns
-unfolding P.paramUntyped
+unfolding P.param_untyped
 returns c =
     let complete = c.before.before.before in
     let bump = complete.before.before.before.before in
@@ -47,7 +47,7 @@ same-length-2 c =
     abandon.abandon.auto.1.0 ∙ error.error.auto.1.0
 
 returns-2 : tie.Need-returns-2
-unfolding P.paramUntyped
+unfolding P.param_untyped
 returns-2 c =
     let abandon = c.before.before in
     let error = abandon.before.before.before.before in

@@ -19,7 +19,7 @@ same_length c =
     complete.complete.auto.1.0 ∙ expect.expect.auto.1.1.1.0
 
 returns : tie.Need-returns
-unfolding A.arrayEnd
+unfolding A.array_end
 returns c =
     let complete = c.before.before in
     let expect = complete.before.before.before.before.before in

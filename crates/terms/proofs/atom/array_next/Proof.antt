@@ -13,7 +13,7 @@ same_length : tie.Need-same-length
 same_length c = c.before.before.before.before.first-semicolon.auto.1.1.0
 
 returns : tie.Need-returns
-unfolding A.arrayNext
+unfolding A.array_next
 returns c = then _ _ _ _ c.before.before.before.before.first-semicolon.ensures
     (rw c.if1.true
     (ends _ _ _ c.before.before.before.before.first-semicolon.ensures.fit))
@@ -22,7 +22,7 @@ same-length-2 : tie.Need-same-length-2
 same-length-2 c = c.before.before.before.before.before.first-semicolon.auto.1.1.0
 
 returns-2 : tie.Need-returns-2
-unfolding A.arrayNext
+unfolding A.array_next
 returns-2 c =
     let if1 = c.before in
     let first-semicolon = if1.before.before.before.before in
@@ -38,7 +38,7 @@ same-length-3 : tie.Need-same-length-3
 same-length-3 c = c.before.before.before.before.before.before.before.first-semicolon.auto.1.1.0
 
 returns-3 : tie.Need-returns-3
-unfolding A.arrayNext
+unfolding A.array_next
 returns-3 c =
     let at = c.before in
     let if2 = at.before in
@@ -61,7 +61,7 @@ same-length-4 c =
     expect.expect.auto.1.1.1.0 ∙ first-semicolon.first-semicolon.auto.1.1.0
 
 returns-4 : tie.Need-returns-4
-unfolding A.arrayNext
+unfolding A.array_next
 returns-4 c =
     let expect = c.before.before.before.before in
     let if3 = expect.before.before in
@@ -85,7 +85,7 @@ same-length-5 c =
     expect.expect.auto.1.1.1.0 ∙ first-semicolon.first-semicolon.auto.1.1.0
 
 returns-5 : tie.Need-returns-5
-unfolding A.arrayNext
+unfolding A.array_next
 returns-5 c =
     let expect = c.before.before.before.before in
     let if3 = expect.before.before in

@@ -12,7 +12,7 @@ same_length : tie.Need-same-length
 same_length c = c.before.before.eat.auto.1.1.1.0
 
 returns : tie.Need-returns
-unfolding A.firstSemicolon
+unfolding A.first_semicolon
 returns c =
     let eat = c.before.before in
     let if1 = eat.before.before in
@@ -20,7 +20,7 @@ returns c =
     eat.eat.ensures
 
 returns-2 : tie.Need-returns-2
-unfolding A.firstSemicolon
+unfolding A.first_semicolon
 returns-2 c = rw c.if1.false
     (ends _ _ _ c.before.before.before.before.requires)
 

@@ -31,7 +31,7 @@ same_length c =
     complete.complete.auto.1.0 ∙ bump2.bump2.auto.1.1.1.0 ∙ bump.bump.auto.1.1.1.0 ∙ start.start.auto.1.0
 
 returns : tie.Need-returns
-unfolding A.invModifier
+unfolding A.inv_modifier
 returns c =
     let complete = c.before.before.before in
     let bump2 = complete.before.before.before.before in
@@ -66,7 +66,7 @@ same-length-2 c =
     complete2.complete2.auto.1.0 ∙ error.error.auto.1.0 ∙ bump.bump.auto.1.1.1.0 ∙ start.start.auto.1.0
 
 returns-2 : tie.Need-returns-2
-unfolding A.invModifier
+unfolding A.inv_modifier
 returns-2 c =
     let complete2 = c.before.before.before in
     let error = complete2.before.before.before.before in
@@ -102,7 +102,7 @@ same-length-3 c =
     complete3.complete3.auto.1.0 ∙ error2.error2.auto.1.0 ∙ bump.bump.auto.1.1.1.0 ∙ start.start.auto.1.0
 
 returns-3 : tie.Need-returns-3
-unfolding A.invModifier
+unfolding A.inv_modifier
 returns-3 c =
     let complete3 = c.before.before.before in
     let error2 = complete3.before.before.before.before in

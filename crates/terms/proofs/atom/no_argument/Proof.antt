@@ -13,7 +13,7 @@ same_length : tie.Need-same-length
 same_length c = c.before.before.error.auto.1.0
 
 returns : tie.Need-returns
-unfolding A.noArgument
+unfolding A.no_argument
 returns c =
     let error = c.before.before in
     let if1 = error.before.before in
@@ -21,7 +21,7 @@ returns c =
     (any _ _ _ error.error.ensures))
 
 returns-2 : tie.Need-returns-2
-unfolding A.noArgument
+unfolding A.no_argument
 returns-2 c = all _ _ (λ e. rw (ne_eqb _ _ c.if1.false)
     (ends _ _ _ c.before.before.requires))
 

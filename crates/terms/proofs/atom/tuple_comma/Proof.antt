@@ -20,7 +20,7 @@ same_length c =
     error.error.auto.1.0 ∙ eat.eat.auto.1.1.1.0
 
 returns : tie.Need-returns
-unfolding A.tupleComma
+unfolding A.tuple_comma
 returns c =
     let error = c.before.before in
     let if1 = error.before.before in
@@ -35,7 +35,7 @@ same-length-2 : tie.Need-same-length-2
 same-length-2 c = c.before.before.before.before.eat.auto.1.1.1.0
 
 returns-2 : tie.Need-returns-2
-unfolding A.tupleComma
+unfolding A.tuple_comma
 returns-2 c = simp (assoc, cond-bind, done-bind)
     (then _ _ _ _ c.before.before.before.before.eat.ensures
     (rw c.if1.false

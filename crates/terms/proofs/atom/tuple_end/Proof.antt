@@ -23,7 +23,7 @@ same_length c =
     complete.complete.auto.1.0 ∙ expect.expect.auto.1.1.1.0
 
 returns : tie.Need-returns
-unfolding A.tupleEnd
+unfolding A.tuple_end
 returns c =
     let complete = c.before.before in
     let tuple-kind = complete.before in

@@ -6,19 +6,19 @@ use Rattle.terms.proofs.atom.tuple_kind.Statement.{statement}
 use Rattle.terms.proofs.atom.tuple_kind.Tie as tie
 
 returns : tie.Need-returns
-unfolding A.tupleKind
+unfolding A.tuple_kind
 returns c = rw c.before.if1.true
     (rw c.if2.true
     (refl))
 
 returns-2 : tie.Need-returns-2
-unfolding A.tupleKind
+unfolding A.tuple_kind
 returns-2 c = rw c.before.if1.true
     (rw c.if2.false
     (refl))
 
 returns-3 : tie.Need-returns-3
-unfolding A.tupleKind
+unfolding A.tuple_kind
 returns-3 c = rw c.if1.false
     (refl)
 

@@ -23,7 +23,7 @@ same_length c =
     complete2.complete2.auto.1.0 ∙ complete.complete.auto.1.0 ∙ expect.expect.auto.1.1.1.0
 
 returns : tie.Need-returns
-unfolding E.argsEnd
+unfolding E.args_end
 returns c =
     let complete2 = c.before.before.before in
     let complete = complete2.before.before.before.before.before in

@@ -14,7 +14,7 @@ has-requires : tie.Need-has-requires
 has-requires c κs = search rules
 
 returns : tie.Need-returns
-unfolding E.arrayBase
+unfolding E.array_base
 returns c =
     let has = c.before in
     let current = has.before.before in
@@ -29,7 +29,7 @@ same_length : tie.Need-same-length
 same_length c = c.before.before.error.auto.1.0
 
 returns-2 : tie.Need-returns-2
-unfolding E.arrayBase
+unfolding E.array_base
 returns-2 c =
     let error = c.before.before in
     let if1 = error.before.before in

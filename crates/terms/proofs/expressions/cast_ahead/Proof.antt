@@ -18,7 +18,7 @@ nth-requires : tie.Need-nth-requires
 nth-requires c κs = (c.before.before.before.current.ensures.fit, search rules)
 
 returns : tie.Need-returns
-unfolding E.castAhead
+unfolding E.cast_ahead
 returns c =
     let nth = c.before.before.before in
     let if1 = nth.before in
@@ -34,7 +34,7 @@ nth-requires-2 : tie.Need-nth-requires-2
 nth-requires-2 c κs = (c.before.before.before.nth.ensures.fit, search rules)
 
 returns-2 : tie.Need-returns-2
-unfolding E.castAhead
+unfolding E.cast_ahead
 returns-2 c =
     let nth2 = c.before.before.before in
     let if2 = nth2.before in
@@ -51,7 +51,7 @@ returns-2 c =
     (ends _ _ _ nth2.nth2.ensures.fit)))))))
 
 returns-3 : tie.Need-returns-3
-unfolding E.castAhead
+unfolding E.cast_ahead
 returns-3 c =
     let nth2 = c.before.before.before in
     let if2 = nth2.before in
@@ -68,7 +68,7 @@ returns-3 c =
     (ends _ _ _ nth2.nth2.ensures.fit)))))))
 
 returns-4 : tie.Need-returns-4
-unfolding E.castAhead
+unfolding E.cast_ahead
 returns-4 c =
     let is-classical-type = c.before in
     let current = is-classical-type.before.before in

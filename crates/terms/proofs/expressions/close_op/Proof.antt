@@ -28,7 +28,7 @@ same_length c =
     complete.complete.auto.1.0 ∙ assigned.assigned.auto.1.1.0 ∙ no-assignment.no-assignment.auto.0
 
 returns : tie.Need-returns
-unfolding E.closeOp
+unfolding E.close_op
 returns c =
     let complete = c.before.before in
     let assigned = complete.before.before.before.before in
@@ -56,7 +56,7 @@ same-length-2 c =
     complete2.complete2.auto.1.0 ∙ error.error.auto.1.0 ∙ no-assignment.no-assignment.auto.0
 
 returns-2 : tie.Need-returns-2
-unfolding E.closeOp
+unfolding E.close_op
 returns-2 c =
     let complete2 = c.before.before in
     let error = complete2.before.before.before.before in
@@ -77,7 +77,7 @@ same-length-3 : tie.Need-same-length-3
 same-length-3 c = c.before.before.complete3.auto.1.0
 
 returns-3 : tie.Need-returns-3
-unfolding E.closeOp
+unfolding E.close_op
 returns-3 c =
     let complete3 = c.before.before in
     let if1 = complete3.before.before in

@@ -11,7 +11,7 @@ at-ts-requires : tie.Need-at-ts-requires
 at-ts-requires c κs = c.before.before.requires
 
 returns : tie.Need-returns
-unfolding E.lacksExpr
+unfolding E.lacks_expr
 returns c = only _ _ _ (λ room. peek _ _ _ _ _ c.before.before.at-ts.ensures
     (rw c.if1.true
     (ends _ _ _ c.before.before.at-ts.ensures.fit)))
@@ -29,7 +29,7 @@ has-requires : tie.Need-has-requires
 has-requires c κs = search rules
 
 returns-2 : tie.Need-returns-2
-unfolding E.lacksExpr
+unfolding E.lacks_expr
 returns-2 c =
     let has = c.before in
     let nth = has.before.before in
@@ -47,7 +47,7 @@ returns-2 c =
     (ends _ _ _ nth.nth.ensures.fit)))))))
 
 returns-3 : tie.Need-returns-3
-unfolding E.lacksExpr
+unfolding E.lacks_expr
 returns-3 c =
     let has = c.before in
     let nth = has.before.before in
@@ -65,7 +65,7 @@ returns-3 c =
     (ends _ _ _ nth.nth.ensures.fit)))))))
 
 returns-4 : tie.Need-returns-4
-unfolding E.lacksExpr
+unfolding E.lacks_expr
 returns-4 c =
     let is-classical-type = c.before in
     let current = is-classical-type.before.before in

@@ -24,7 +24,7 @@ same_length : tie.Need-same-length
 same_length c = c.before.before.error.auto.1.0
 
 returns : tie.Need-returns
-unfolding E.literalDesignator
+unfolding E.literal_designator
 returns c =
     let error = c.before.before in
     let if2 = error.before.before in
@@ -39,7 +39,7 @@ returns c =
     (any _ _ _ error.error.ensures))))
 
 returns-2 : tie.Need-returns-2
-unfolding E.literalDesignator
+unfolding E.literal_designator
 returns-2 c =
     let nth = c.before.before.before in
     let if1 = nth.before in
@@ -52,7 +52,7 @@ returns-2 c =
     (ends _ _ _ nth.nth.ensures.fit))))
 
 returns-3 : tie.Need-returns-3
-unfolding E.literalDesignator
+unfolding E.literal_designator
 returns-3 c =
     let has = c.before in
     let current = has.before.before in

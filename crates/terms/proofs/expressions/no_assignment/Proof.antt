@@ -6,7 +6,7 @@ use Rattle.terms.proofs.expressions.no_assignment.Statement.{statement}
 use Rattle.terms.proofs.expressions.no_assignment.Tie as tie
 
 returns : tie.Need-returns
-unfolding E.noAssignment
+unfolding E.no_assignment
 returns c = all _ _ (λ e. rw c.if1.true
     (ends _ _ _ c.before.before.requires))
 
@@ -17,7 +17,7 @@ same_length : tie.Need-same-length
 same_length c = c.before.before.error.auto.1.0
 
 returns-2 : tie.Need-returns-2
-unfolding E.noAssignment
+unfolding E.no_assignment
 returns-2 c =
     let error = c.before.before in
     let if1 = error.before.before in

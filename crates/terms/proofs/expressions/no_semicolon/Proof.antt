@@ -6,12 +6,12 @@ use Rattle.terms.proofs.expressions.no_semicolon.Statement.{statement}
 use Rattle.terms.proofs.expressions.no_semicolon.Tie as tie
 
 returns : tie.Need-returns
-unfolding E.noSemicolon
+unfolding E.no_semicolon
 returns c = all _ _ (λ e. rw c.if1.true
     (ends _ _ _ c.before.before.requires))
 
 returns-2 : tie.Need-returns-2
-unfolding E.noSemicolon
+unfolding E.no_semicolon
 returns-2 c =
     let if1 = c.before in
     let entry = if1.before.before in
@@ -26,7 +26,7 @@ same_length : tie.Need-same-length
 same_length c = c.before.before.error.auto.1.0
 
 returns-3 : tie.Need-returns-3
-unfolding E.noSemicolon
+unfolding E.no_semicolon
 returns-3 c =
     let error = c.before.before in
     let if2 = error.before.before in

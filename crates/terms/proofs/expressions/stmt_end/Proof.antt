@@ -8,7 +8,7 @@ use Rattle.terms.proofs.expressions.stmt_end.Statement.{statement}
 use Rattle.terms.proofs.expressions.stmt_end.Tie as tie
 
 returns : tie.Need-returns
-unfolding E.stmtEnd
+unfolding E.stmt_end
 returns c = rw (eq-eqb _ _ c.if1.true)
     (ends _ _ _ c.before.before.before.before.before.requires)
 
@@ -16,7 +16,7 @@ at-requires : tie.Need-at-requires
 at-requires c κs = c.before.before.before.before.before.requires
 
 returns-2 : tie.Need-returns-2
-unfolding E.stmtEnd
+unfolding E.stmt_end
 returns-2 c =
     let at = c.before in
     let if1 = at.before in
@@ -47,7 +47,7 @@ same_length c =
     complete.complete.auto.1.0 ∙ no-semicolon.no-semicolon.auto.0 ∙ eat.eat.auto.1.1.1.0 ∙ precede.precede.auto.1.0
 
 returns-3 : tie.Need-returns-3
-unfolding E.stmtEnd
+unfolding E.stmt_end
 returns-3 c =
     let complete = c.before.before.before in
     let no-semicolon = complete.before.before.before.before in

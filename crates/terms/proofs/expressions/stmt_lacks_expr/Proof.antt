@@ -9,7 +9,7 @@ cast-ahead-requires : tie.Need-cast-ahead-requires
 cast-ahead-requires c κs = c.before.before.requires
 
 returns : tie.Need-returns
-unfolding E.stmtLacksExpr
+unfolding E.stmt_lacks_expr
 returns c = only _ _ _ (λ room. peek _ _ _ _ _ c.before.before.cast-ahead.ensures
     (rw c.if1.true
     (ends _ _ _ c.before.before.cast-ahead.ensures.fit)))
@@ -18,7 +18,7 @@ at-ts-requires : tie.Need-at-ts-requires
 at-ts-requires c κs = c.before.before.cast-ahead.ensures.fit
 
 returns-2 : tie.Need-returns-2
-unfolding E.stmtLacksExpr
+unfolding E.stmt_lacks_expr
 returns-2 c =
     let at-ts = c.before.before in
     let if1 = at-ts.before in
@@ -30,7 +30,7 @@ returns-2 c =
     (ends _ _ _ at-ts.at-ts.ensures.fit)))))
 
 returns-3 : tie.Need-returns-3
-unfolding E.stmtLacksExpr
+unfolding E.stmt_lacks_expr
 returns-3 c =
     let at-ts = c.before.before in
     let if1 = at-ts.before in

@@ -23,7 +23,7 @@ same_length : tie.Need-same-length
 same_length c = c.before.before.bump.auto.1.1.1.0
 
 returns : tie.Need-returns
-unfolding E.typeName
+unfolding E.type_name
 returns c =
     let bump = c.before.before in
     let current2 = bump.before.before.before in
@@ -42,7 +42,7 @@ same-length-2 : tie.Need-same-length-2
 same-length-2 c = c.before.before.error.auto.1.0
 
 returns-2 : tie.Need-returns-2
-unfolding E.typeName
+unfolding E.type_name
 returns-2 c =
     let error = c.before.before in
     let if1 = error.before.before in

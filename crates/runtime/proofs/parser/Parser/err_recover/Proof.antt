@@ -1,6 +1,6 @@
 -- `parser::Parser::err_recover` meets its contract. Assumes nothing.
 use Rattle.std.proofs.Common.{rules}
-use Rattle.runtime.specs.Acts.{errRecover}
+use Rattle.runtime.specs.Acts.{err_recover}
 use Rattle.runtime.proofs.Laws.{then, step, peek, so, not, any, ends}
 use Rattle.runtime.proofs.Cases.{one-first, one_later, one_none}
 use Rattle.runtime.proofs.parser.Parser.err_recover.Statement.{statement}
@@ -16,7 +16,7 @@ same_length : tie.Need-same-length
 same_length c = search rules
 
 returns : tie.Need-returns
-unfolding errRecover
+unfolding err_recover
 returns c = peek _ _ _ _ _ c.before.before.before.before.before.before.current.ensures (so _ _ _ _ (one-first _ _ _ c.before.before.before.before.if1.true) (any _ _ _ c.before.before.error.ensures))
 
 error-requires-2 : tie.Need-error-requires-2
@@ -26,7 +26,7 @@ same-length-2 : tie.Need-same-length-2
 same-length-2 c = search rules
 
 returns-2 : tie.Need-returns-2
-unfolding errRecover
+unfolding err_recover
 returns-2 c = peek _ _ _ _ _ c.before.before.before.before.before.before.before.current.ensures (so _ _ _ _ (one_later _ _ _ c.before.before.before.before.before.if1.false (one-first _ _ _ c.before.before.before.before.if2.true)) (any _ _ _ c.before.before.error2.ensures))
 
 at-ts-requires : tie.Need-at-ts-requires
@@ -39,7 +39,7 @@ same-length-3 : tie.Need-same-length-3
 same-length-3 c = search rules
 
 returns-3 : tie.Need-returns-3
-unfolding errRecover
+unfolding err_recover
 returns-3 c = peek _ _ _ _ _ c.before.before.before.before.before.before.before.before.before.before.current.ensures (not _ _ _ _ (one_later _ _ _ c.before.before.before.before.before.before.before.before.if1.false (one_later _ _ _ c.before.before.before.before.before.before.before.if2.false (one_none _))) (peek _ _ _ _ _ c.before.before.before.before.before.before.at-ts.ensures (so _ _ _ _ c.before.before.before.before.if3.true (any _ _ _ c.before.before.error3.ensures))))
 
 start-requires : tie.Need-start-requires
@@ -58,7 +58,7 @@ same-length-4 : tie.Need-same-length-4
 same-length-4 c = search rules
 
 returns-4 : tie.Need-returns-4
-unfolding errRecover
+unfolding err_recover
 returns-4 c = peek _ _ _ _ _ c.before.before.before.before.before.before.before.before.before.before.before.before.before.before.before.before.before.before.before.before.before.before.before.before.current.ensures (not _ _ _ _ (one_later _ _ _ c.before.before.before.before.before.before.before.before.before.before.before.before.before.before.before.before.before.before.before.before.before.before.if1.false (one_later _ _ _ c.before.before.before.before.before.before.before.before.before.before.before.before.before.before.before.before.before.before.before.before.before.if2.false (one_none _))) (peek _ _ _ _ _ c.before.before.before.before.before.before.before.before.before.before.before.before.before.before.before.before.before.before.before.before.at-ts.ensures (not _ _ _ _ c.before.before.before.before.before.before.before.before.before.before.before.before.before.before.before.before.before.before.if3.false (step _ _ _ _ c.before.before.before.before.before.before.before.before.before.before.before.before.before.before.before.before.start.ensures (step _ _ _ _ c.before.before.before.before.before.before.before.before.before.before.before.error4.ensures (then _ _ _ _ c.before.before.before.before.before.before.before.bump-any.ensures (step _ _ _ _ c.before.before.before.complete.ensures (ends _ _ _ c.before.before.before.complete.ensures.fit))))))))
 
 pub err-recover-spec : {M : Type 1} → statement M

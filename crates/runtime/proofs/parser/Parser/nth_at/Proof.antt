@@ -1,7 +1,7 @@
 -- `parser::Parser::nth_at` meets its contract: a kind of one token is looked at by itself. Assumes nothing.
 use Rattle.std.proofs.Common.{sym, ap, ◌∙◌, rules}
 use Rattle.input.specs.Input.{env}
-use Rattle.input.specs.Glue.{standsAt}
+use Rattle.input.specs.Glue.{stands_at}
 use Rattle.input.proofs.Plain.{plain-stands}
 use Rattle.runtime.proofs.parser.Parser.nth_at.Statement.{statement}
 use Rattle.runtime.proofs.parser.Parser.nth_at.Tie as tie
@@ -30,7 +30,7 @@ stands-at-requires : tie.Need-stands-at-requires
 stands-at-requires c κs = search rules
 
 returns-2 : tie.Need-returns-2
-returns-2 c = c.stands_at.ensures ∙ ap (standsAt _ _ _) c.before.before.parts-of.ensures
+returns-2 c = c.stands_at.ensures ∙ ap (stands_at _ _ _) c.before.before.parts-of.ensures
 
 pub nth-at-spec : {M : Type 1} → statement M
 nth-at-spec =
