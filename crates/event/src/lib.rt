@@ -1,5 +1,7 @@
 // An event, its words, and its place in a lent room (docs/RULES.md, section 2). The parser writes events here, the check and the
 // resolution read them here.
+#![tactic(auto)]
+
 ghost use Rattle.std.specs.Prelude.{◌≡◌, true, ◌/◌, ◌<◌, length, get_or, set};
 ghost use Rattle.event.specs.Event as spec;
 ghost use Rattle.event.specs.Event.{event_words, events_of, stored};
@@ -21,7 +23,7 @@ pub const ERROR: u32 = 262144;
 
 // An event: its kind and the distance to its forward parent, 0 for none; a kind and the raw count; a code, its argument and the kind found,
 // which only "expected KIND" has: its code is 1.
-#[derive(Drop)]
+#[derive(Clone, Copy)]
 pub enum Event {
     Start(u16, u32),
     Finish,
@@ -32,7 +34,7 @@ pub enum Event {
 }
 
 // The words of an event.
-#[derive(Drop)]
+#[derive(Clone, Copy)]
 pub struct Words {
     pub first: u32,
     pub second: u32,

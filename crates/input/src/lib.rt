@@ -1,4 +1,6 @@
 // Reading the lent tokens: src/input.rs, and the tests of src/parser.rs that only read them.
+#![tactic(auto)]
+
 ghost use Rattle.std.specs.Prelude.{◌≡◌, ◌+◌, ◌≤◌, min, leb, length};
 ghost use Rattle.input.specs.Input.{env, most_tokens, seen, is_joint};
 ghost use Rattle.input.specs.Glue.{at_composite2, at_composite3, stands_at, parts_of, is_one, raw_count};
@@ -9,7 +11,7 @@ use kinds::syntax_kind_enum as k;
 const MOST_TOKENS: usize = 8192;
 
 // What a kind is made of: itself, or two or three tokens that are glued.
-#[derive(Drop)]
+#[derive(Clone, Copy)]
 pub enum Parts {
     One(u16),
     Two(u16, u16),

@@ -1,6 +1,8 @@
 // The kinds of each fixed set by name: `Fixed::has` goes by these tests. Each kind stands once, in the order of the crate's text (docs/SETS.md).
 // Kinds that lie within 64 numbers are one match, others one for each 64 numbers: the compiler makes a test of one bit of either (docs/SPEED.md).
 // Written by tools/lists; ./check compares it with the source.
+#![tactic(auto, unfolding(crate::specs::Membership::one_of))]
+
 ghost use Rattle.std.specs.Prelude.{◌≡◌};
 ghost use Rattle.kinds.specs.Membership.{one_of};
 ghost use Rattle.kinds.specs.Sets.{PATH-FIRST, LITERAL-FIRST, TIMING-LITERAL-FIRST, ATOM-EXPR-FIRST, EXPR-RECOVERY-SET, EXPR-FIRST, PATTERN-FIRST, TYPE-FIRST, PARAM-FIRST, ITEM-RECOVERY-SET, SCALAR-TYPES, CLASSICAL-TYPES, QUANTUM-TYPES, TYPES, PERMITTED, QUBIT-FIRST, PREFIX-OPS, CAST-NEXT, ASSIGNABLE, UNINDEXED, ARRAY-BASES, NO-INTEGERS};

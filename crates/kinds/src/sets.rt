@@ -8,7 +8,7 @@ use crate::listings;
 use crate::token_set::TokenSet;
 
 // A fixed set's name. ExprFirst is LHS_FIRST too, which the crate gives that second name.
-#[derive(Drop)]
+#[derive(Clone, Copy)]
 pub enum Fixed {
     Empty,
     PathFirst,

@@ -5,7 +5,7 @@ ghost use Rattle.kinds.specs.Membership.{held, either, number};
 use crate::syntax_kind_enum as k;
 
 // A set of kinds, a bit for each: kind k is bit k % 64 of word k / 64. A kind beyond the words is in no set.
-#[derive(Drop)]
+#[derive(Clone, Copy)]
 pub struct TokenSet {
     pub words: [u64; 4],
 }

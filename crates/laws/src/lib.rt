@@ -1,1 +1,2 @@
 // Proofs alone: laws of tests and choices that every crate uses.
+#![tactic(auto)]

@@ -1,0 +1,8 @@
+-- `event::set_kind` meets its contract. Assumes nothing.
+use Rattle.event.specs.Event.{encode}
+use Rattle.event.proofs.Rooms.{start-index}
+use Rattle.event.proofs.set_kind.Goals as goal
+
+pub returns : goal.returns
+unfolding encode
+returns c = let w = c.args.words.now in let i = c.args.i in rw (start-index w i c.requires.i_in_bounds c.requires.none_value)
