@@ -1,13 +1,14 @@
-// A reader: it holds the lent kinds and a position, and answers what stands there and ahead of it. The borrow checker covers no function
-// over such a struct, so each is thin and proved by hand; the work is done by `kind_ahead`, which takes a plain slice and is covered, and
-// everyone else calls `found_at`.
+// A reader: it holds the lent kinds and a position, and answers what stands there and ahead of it. Each function over it is thin: the work is
+// done by `kind_ahead`, which takes a plain slice, and everyone else calls `found_at`.
+#![tactic(auto)]
+
 ghost use Rattle.std.specs.Prelude.{◌≡◌, ◌+◌};
 ghost use Rattle.input.specs.Input.{kind};
 
 use kinds::syntax_kind_enum as k;
 
 // The lent kinds and a position among them.
-#[derive(Drop)]
+#[derive(Clone, Copy)]
 pub struct Reader<'a> {
     pub kinds: &'a [u16],
     pub at: usize,

@@ -1,4 +1,6 @@
 // The operators: fn current_op of src/grammar/expressions.rs, and the powers of both modes.
+#![tactic(auto)]
+
 ghost use Rattle.std.specs.Prelude.{◌≡◌, [], ◌∷◌};
 ghost use Rattle.input.specs.Input.{env};
 ghost use Rattle.runtime.specs.State.{Fit};
@@ -9,7 +11,7 @@ use kinds::syntax_kind_enum as k;
 use runtime::parser::Parser;
 
 // An operator: its power, its kind, and the least power of its right side.
-#[derive(Drop)]
+#[derive(Clone, Copy)]
 pub struct Op {
     pub power: u8,
     pub kind: u16,
@@ -17,7 +19,7 @@ pub struct Op {
 }
 
 // The state and an operator.
-#[derive(Drop)]
+#[derive(Clone, Copy)]
 pub struct OpAt {
     pub p: Parser,
     pub op: Op,

@@ -18,7 +18,7 @@ const MOST_LOOKS: usize = 10000;
 // The state: tokens consumed, lookups since the last token, events written, lookups in all, and the refusal's number, 0 for none.
 // It is passed by value, and each operation hands it back. A refused one is handed back as it is. The fields leave no gap between
 // them, which would be copied with them (docs/SPEED.md).
-#[derive(Drop)]
+#[derive(Clone, Copy)]
 pub struct Parser {
     pub pos: usize,
     pub since: usize,
@@ -28,42 +28,42 @@ pub struct Parser {
 }
 
 // A completed marker: the position of its start, and its kind. (A marker is such a position.)
-#[derive(Drop)]
+#[derive(Clone, Copy)]
 pub struct Completed {
     pub pos: u32,
     pub kind: u16,
 }
 
 // The state and a marker.
-#[derive(Drop)]
+#[derive(Clone, Copy)]
 pub struct Started {
     pub p: Parser,
     pub m: u32,
 }
 
 // The state and a completed marker.
-#[derive(Drop)]
+#[derive(Clone, Copy)]
 pub struct Done {
     pub p: Parser,
     pub cm: Completed,
 }
 
 // The state and a kind that was looked up.
-#[derive(Drop)]
+#[derive(Clone, Copy)]
 pub struct Looked {
     pub p: Parser,
     pub kind: u16,
 }
 
 // The state and whether.
-#[derive(Drop)]
+#[derive(Clone, Copy)]
 pub struct Told {
     pub p: Parser,
     pub yes: bool,
 }
 
 // Why the grammar stops a run: a counted call begins too deep, or an assertion fails.
-#[derive(Drop)]
+#[derive(Clone, Copy)]
 pub enum Stop {
     Deep,
     Panic,
