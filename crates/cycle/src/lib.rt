@@ -1,5 +1,7 @@
 // The productions that call one another, in one cycle: src/grammar.rs and the files below it, in the crate's order. Each counted call has
 // one call less to spare, `left`; docs/ARCHITECTURE.md says which function of the crate is where, docs/DECISIONS.md why the names are short.
+#![tactic(auto)]
+
 pub mod entry;
 
 ghost use Rattle.std.specs.Prelude.{◌≡◌, ◌≤◌};
@@ -24,7 +26,7 @@ use terms::{atom, expressions};
 // ---- src/grammar.rs
 
 // the end of def_stmt and defcal_: opt_ret_type, and the body
-#[cycle(args_arr_atom_blk_body_bx_call_cast_cplx_ctl_dcal_decl_def_els_expr_bp_fors_gate_gdef_gph_ids_idx_ifs_io_lhs_list_meas_mods_more_opt_par_post_qarg_range_rest_ret_scal_set_sig_spec_stmt_sts_subs_sw_tup_width)]
+#[cycle(productions)]
 fn sig(
     kinds: &[u16],
     joints: &[u64],
@@ -62,7 +64,7 @@ fn sig(
 // ---- src/grammar/params.rs
 
 // expression_list
-#[cycle(args_arr_atom_blk_body_bx_call_cast_cplx_ctl_dcal_decl_def_els_expr_bp_fors_gate_gdef_gph_ids_idx_ifs_io_lhs_list_meas_mods_more_opt_par_post_qarg_range_rest_ret_scal_set_sig_spec_stmt_sts_subs_sw_tup_width)]
+#[cycle(productions)]
 fn els(kinds: &[u16], joints: &[u64], room: &mut [u32], p: Parser, mode: u8, left: u32) -> Parser
     requires { Fit p }
     ensures { Does (env kinds.now joints.now) (counted (table_of mode) left).expression_list (view p room.old) tt (view result room.new) }
@@ -75,7 +77,7 @@ fn els(kinds: &[u16], joints: &[u64], room: &mut [u32], p: Parser, mode: u8, lef
 }
 
 // _param_list_openqasm
-#[cycle(args_arr_atom_blk_body_bx_call_cast_cplx_ctl_dcal_decl_def_els_expr_bp_fors_gate_gdef_gph_ids_idx_ifs_io_lhs_list_meas_mods_more_opt_par_post_qarg_range_rest_ret_scal_set_sig_spec_stmt_sts_subs_sw_tup_width)]
+#[cycle(productions)]
 fn list(
     kinds: &[u16],
     joints: &[u64],
@@ -121,7 +123,7 @@ fn list(
 }
 
 // one parameter of _param_list_openqasm: expr_or_range_expr, arg_gate_call_qubit, param_typed or param_untyped
-#[cycle(args_arr_atom_blk_body_bx_call_cast_cplx_ctl_dcal_decl_def_els_expr_bp_fors_gate_gdef_gph_ids_idx_ifs_io_lhs_list_meas_mods_more_opt_par_post_qarg_range_rest_ret_scal_set_sig_spec_stmt_sts_subs_sw_tup_width)]
+#[cycle(productions)]
 fn par(
     kinds: &[u16],
     joints: &[u64],
@@ -175,7 +177,7 @@ fn par(
 }
 
 // arg_gate_call_qubit
-#[cycle(args_arr_atom_blk_body_bx_call_cast_cplx_ctl_dcal_decl_def_els_expr_bp_fors_gate_gdef_gph_ids_idx_ifs_io_lhs_list_meas_mods_more_opt_par_post_qarg_range_rest_ret_scal_set_sig_spec_stmt_sts_subs_sw_tup_width)]
+#[cycle(productions)]
 fn qarg(
     kinds: &[u16],
     joints: &[u64],
@@ -213,7 +215,7 @@ fn qarg(
 // ---- src/grammar/expressions/atom.rs
 
 // atom_expr
-#[cycle(args_arr_atom_blk_body_bx_call_cast_cplx_ctl_dcal_decl_def_els_expr_bp_fors_gate_gdef_gph_ids_idx_ifs_io_lhs_list_meas_mods_more_opt_par_post_qarg_range_rest_ret_scal_set_sig_spec_stmt_sts_subs_sw_tup_width)]
+#[cycle(productions)]
 fn atom(kinds: &[u16], joints: &[u64], room: &mut [u32], p: Parser, mode: u8, left: u32) -> Parsed
     requires { Fit p }
     ensures { Does (env kinds.now joints.now) (atoms.atom_expr (counted (table_of mode) left)) (view p room.old) result.got (view result.p room.new) }
@@ -312,7 +314,7 @@ fn atom(kinds: &[u16], joints: &[u64], room: &mut [u32], p: Parser, mode: u8, le
 }
 
 // cast_expr
-#[cycle(args_arr_atom_blk_body_bx_call_cast_cplx_ctl_dcal_decl_def_els_expr_bp_fors_gate_gdef_gph_ids_idx_ifs_io_lhs_list_meas_mods_more_opt_par_post_qarg_range_rest_ret_scal_set_sig_spec_stmt_sts_subs_sw_tup_width)]
+#[cycle(productions)]
 fn cast(kinds: &[u16], joints: &[u64], room: &mut [u32], p: Parser, mode: u8, left: u32) -> Done
     requires { Fit p }
     ensures { Does (env kinds.now joints.now) (atoms.cast_expr (counted (table_of mode) left)) (view p room.old) result.cm (view result.p room.new) }
@@ -328,7 +330,7 @@ fn cast(kinds: &[u16], joints: &[u64], room: &mut [u32], p: Parser, mode: u8, le
 }
 
 // gphase_call_expr
-#[cycle(args_arr_atom_blk_body_bx_call_cast_cplx_ctl_dcal_decl_def_els_expr_bp_fors_gate_gdef_gph_ids_idx_ifs_io_lhs_list_meas_mods_more_opt_par_post_qarg_range_rest_ret_scal_set_sig_spec_stmt_sts_subs_sw_tup_width)]
+#[cycle(productions)]
 fn gph(kinds: &[u16], joints: &[u64], room: &mut [u32], p: Parser, mode: u8, left: u32) -> Done
     requires { Fit p }
     ensures { Does (env kinds.now joints.now) (atoms.gphase_call_expr (counted (table_of mode) left)) (view p room.old) result.cm (view result.p room.new) }
@@ -343,7 +345,7 @@ fn gph(kinds: &[u16], joints: &[u64], room: &mut [u32], p: Parser, mode: u8, lef
 }
 
 // modified_gate_call_expr
-#[cycle(args_arr_atom_blk_body_bx_call_cast_cplx_ctl_dcal_decl_def_els_expr_bp_fors_gate_gdef_gph_ids_idx_ifs_io_lhs_list_meas_mods_more_opt_par_post_qarg_range_rest_ret_scal_set_sig_spec_stmt_sts_subs_sw_tup_width)]
+#[cycle(productions)]
 fn mods(kinds: &[u16], joints: &[u64], room: &mut [u32], p: Parser, mode: u8, left: u32) -> Done
     requires { Fit p }
     ensures { Does (env kinds.now joints.now) (atoms.modified_gate_call_expr (counted (table_of mode) left)) (view p room.old) result.cm (view result.p room.new) }
@@ -410,7 +412,7 @@ fn mods(kinds: &[u16], joints: &[u64], room: &mut [u32], p: Parser, mode: u8, le
 }
 
 // the modifiers `pow`, `ctrl` and `negctrl` of modified_gate_call_expr
-#[cycle(args_arr_atom_blk_body_bx_call_cast_cplx_ctl_dcal_decl_def_els_expr_bp_fors_gate_gdef_gph_ids_idx_ifs_io_lhs_list_meas_mods_more_opt_par_post_qarg_range_rest_ret_scal_set_sig_spec_stmt_sts_subs_sw_tup_width)]
+#[cycle(productions)]
 fn ctl(
     kinds: &[u16],
     joints: &[u64],
@@ -442,7 +444,7 @@ fn ctl(
 }
 
 // gate_call_expr
-#[cycle(args_arr_atom_blk_body_bx_call_cast_cplx_ctl_dcal_decl_def_els_expr_bp_fors_gate_gdef_gph_ids_idx_ifs_io_lhs_list_meas_mods_more_opt_par_post_qarg_range_rest_ret_scal_set_sig_spec_stmt_sts_subs_sw_tup_width)]
+#[cycle(productions)]
 fn gate(kinds: &[u16], joints: &[u64], room: &mut [u32], p: Parser, mode: u8, left: u32) -> Done
     requires { Fit p }
     ensures { Does (env kinds.now joints.now) (atoms.gate_call_expr (counted (table_of mode) left)) (view p room.old) result.cm (view result.p room.new) }
@@ -477,7 +479,7 @@ fn gate(kinds: &[u16], joints: &[u64], room: &mut [u32], p: Parser, mode: u8, le
 }
 
 // measure_expression
-#[cycle(args_arr_atom_blk_body_bx_call_cast_cplx_ctl_dcal_decl_def_els_expr_bp_fors_gate_gdef_gph_ids_idx_ifs_io_lhs_list_meas_mods_more_opt_par_post_qarg_range_rest_ret_scal_set_sig_spec_stmt_sts_subs_sw_tup_width)]
+#[cycle(productions)]
 fn meas(kinds: &[u16], joints: &[u64], room: &mut [u32], p: Parser, mode: u8, left: u32) -> Done
     requires { Fit p }
     ensures { Does (env kinds.now joints.now) (atoms.measure_expression (counted (table_of mode) left)) (view p room.old) result.cm (view result.p room.new) }
@@ -499,7 +501,7 @@ fn meas(kinds: &[u16], joints: &[u64], room: &mut [u32], p: Parser, mode: u8, le
 }
 
 // tuple_expr
-#[cycle(args_arr_atom_blk_body_bx_call_cast_cplx_ctl_dcal_decl_def_els_expr_bp_fors_gate_gdef_gph_ids_idx_ifs_io_lhs_list_meas_mods_more_opt_par_post_qarg_range_rest_ret_scal_set_sig_spec_stmt_sts_subs_sw_tup_width)]
+#[cycle(productions)]
 fn tup(kinds: &[u16], joints: &[u64], room: &mut [u32], p: Parser, mode: u8, left: u32) -> Done
     requires { Fit p }
     ensures { Does (env kinds.now joints.now) (atoms.tuple_expr (counted (table_of mode) left)) (view p room.old) result.cm (view result.p room.new) }
@@ -529,7 +531,7 @@ fn tup(kinds: &[u16], joints: &[u64], room: &mut [u32], p: Parser, mode: u8, lef
 }
 
 // array_expr
-#[cycle(args_arr_atom_blk_body_bx_call_cast_cplx_ctl_dcal_decl_def_els_expr_bp_fors_gate_gdef_gph_ids_idx_ifs_io_lhs_list_meas_mods_more_opt_par_post_qarg_range_rest_ret_scal_set_sig_spec_stmt_sts_subs_sw_tup_width)]
+#[cycle(productions)]
 fn arr(kinds: &[u16], joints: &[u64], room: &mut [u32], p: Parser, mode: u8, left: u32) -> Done
     requires { Fit p }
     ensures { Does (env kinds.now joints.now) (atoms.array_expr (counted (table_of mode) left)) (view p room.old) result.cm (view result.p room.new) }
@@ -570,7 +572,7 @@ fn arr(kinds: &[u16], joints: &[u64], room: &mut [u32], p: Parser, mode: u8, lef
 }
 
 // try_block_expr
-#[cycle(args_arr_atom_blk_body_bx_call_cast_cplx_ctl_dcal_decl_def_els_expr_bp_fors_gate_gdef_gph_ids_idx_ifs_io_lhs_list_meas_mods_more_opt_par_post_qarg_range_rest_ret_scal_set_sig_spec_stmt_sts_subs_sw_tup_width)]
+#[cycle(productions)]
 fn body(kinds: &[u16], joints: &[u64], room: &mut [u32], p: Parser, mode: u8, left: u32) -> Parser
     requires { Fit p }
     ensures { Does (env kinds.now joints.now) (atoms.try_block_expr (counted (table_of mode) left)) (view p room.old) tt (view result room.new) }
@@ -583,7 +585,7 @@ fn body(kinds: &[u16], joints: &[u64], room: &mut [u32], p: Parser, mode: u8, le
 }
 
 // block_expr
-#[cycle(args_arr_atom_blk_body_bx_call_cast_cplx_ctl_dcal_decl_def_els_expr_bp_fors_gate_gdef_gph_ids_idx_ifs_io_lhs_list_meas_mods_more_opt_par_post_qarg_range_rest_ret_scal_set_sig_spec_stmt_sts_subs_sw_tup_width)]
+#[cycle(productions)]
 fn blk(kinds: &[u16], joints: &[u64], room: &mut [u32], p: Parser, mode: u8, left: u32) -> Done
     requires { Fit p }
     ensures { Does (env kinds.now joints.now) (atoms.block_expr (counted (table_of mode) left)) (view p room.old) result.cm (view result.p room.new) }
@@ -598,7 +600,7 @@ fn blk(kinds: &[u16], joints: &[u64], room: &mut [u32], p: Parser, mode: u8, lef
 }
 
 // return_expr
-#[cycle(args_arr_atom_blk_body_bx_call_cast_cplx_ctl_dcal_decl_def_els_expr_bp_fors_gate_gdef_gph_ids_idx_ifs_io_lhs_list_meas_mods_more_opt_par_post_qarg_range_rest_ret_scal_set_sig_spec_stmt_sts_subs_sw_tup_width)]
+#[cycle(productions)]
 fn ret(kinds: &[u16], joints: &[u64], room: &mut [u32], p: Parser, mode: u8, left: u32) -> Done
     requires { Fit p }
     ensures { Does (env kinds.now joints.now) (atoms.return_expr (counted (table_of mode) left)) (view p room.old) result.cm (view result.p room.new) }
@@ -618,7 +620,7 @@ fn ret(kinds: &[u16], joints: &[u64], room: &mut [u32], p: Parser, mode: u8, lef
 }
 
 // box_expr
-#[cycle(args_arr_atom_blk_body_bx_call_cast_cplx_ctl_dcal_decl_def_els_expr_bp_fors_gate_gdef_gph_ids_idx_ifs_io_lhs_list_meas_mods_more_opt_par_post_qarg_range_rest_ret_scal_set_sig_spec_stmt_sts_subs_sw_tup_width)]
+#[cycle(productions)]
 fn bx(kinds: &[u16], joints: &[u64], room: &mut [u32], p: Parser, mode: u8, left: u32) -> Done
     requires { Fit p }
     ensures { Does (env kinds.now joints.now) (atoms.box_expr (counted (table_of mode) left)) (view p room.old) result.cm (view result.p room.new) }
@@ -640,7 +642,7 @@ fn bx(kinds: &[u16], joints: &[u64], room: &mut [u32], p: Parser, mode: u8, left
 // ---- src/grammar/expressions.rs
 
 // range_expr
-#[cycle(args_arr_atom_blk_body_bx_call_cast_cplx_ctl_dcal_decl_def_els_expr_bp_fors_gate_gdef_gph_ids_idx_ifs_io_lhs_list_meas_mods_more_opt_par_post_qarg_range_rest_ret_scal_set_sig_spec_stmt_sts_subs_sw_tup_width)]
+#[cycle(productions)]
 fn range(kinds: &[u16], joints: &[u64], room: &mut [u32], p: Parser, mode: u8, left: u32) -> Parser
     requires { Fit p }
     ensures { Does (env kinds.now joints.now) (E.range_expr (counted (table_of mode) left)) (view p room.old) tt (view result room.new) }
@@ -668,7 +670,7 @@ fn range(kinds: &[u16], joints: &[u64], room: &mut [u32], p: Parser, mode: u8, l
 }
 
 // stmt, with let_stmt
-#[cycle(args_arr_atom_blk_body_bx_call_cast_cplx_ctl_dcal_decl_def_els_expr_bp_fors_gate_gdef_gph_ids_idx_ifs_io_lhs_list_meas_mods_more_opt_par_post_qarg_range_rest_ret_scal_set_sig_spec_stmt_sts_subs_sw_tup_width)]
+#[cycle(productions)]
 fn stmt(kinds: &[u16], joints: &[u64], room: &mut [u32], p: Parser, mode: u8, left: u32) -> Parser
     requires { Fit p }
     ensures { Does (env kinds.now joints.now) (counted (table_of mode) left).stmt (view p room.old) tt (view result room.new) }
@@ -731,7 +733,7 @@ fn stmt(kinds: &[u16], joints: &[u64], room: &mut [u32], p: Parser, mode: u8, le
 }
 
 // expr_block_contents
-#[cycle(args_arr_atom_blk_body_bx_call_cast_cplx_ctl_dcal_decl_def_els_expr_bp_fors_gate_gdef_gph_ids_idx_ifs_io_lhs_list_meas_mods_more_opt_par_post_qarg_range_rest_ret_scal_set_sig_spec_stmt_sts_subs_sw_tup_width)]
+#[cycle(productions)]
 fn sts(kinds: &[u16], joints: &[u64], room: &mut [u32], p: Parser, mode: u8, left: u32) -> Parser
     requires { Fit p }
     ensures { Does (env kinds.now joints.now) (E.expr_block_contents (counted (table_of mode) left)) (view p room.old) tt (view result room.new) }
@@ -744,7 +746,7 @@ fn sts(kinds: &[u16], joints: &[u64], room: &mut [u32], p: Parser, mode: u8, lef
 }
 
 // expr_bp
-#[cycle(args_arr_atom_blk_body_bx_call_cast_cplx_ctl_dcal_decl_def_els_expr_bp_fors_gate_gdef_gph_ids_idx_ifs_io_lhs_list_meas_mods_more_opt_par_post_qarg_range_rest_ret_scal_set_sig_spec_stmt_sts_subs_sw_tup_width)]
+#[cycle(productions)]
 pub fn expr_bp(
     kinds: &[u16],
     joints: &[u64],
@@ -845,7 +847,7 @@ pub fn expr_bp(
 }
 
 // lhs: a prefix operator and its operand, or an atom and what follows it
-#[cycle(args_arr_atom_blk_body_bx_call_cast_cplx_ctl_dcal_decl_def_els_expr_bp_fors_gate_gdef_gph_ids_idx_ifs_io_lhs_list_meas_mods_more_opt_par_post_qarg_range_rest_ret_scal_set_sig_spec_stmt_sts_subs_sw_tup_width)]
+#[cycle(productions)]
 fn lhs(
     kinds: &[u16],
     joints: &[u64],
@@ -900,7 +902,7 @@ fn lhs(
 }
 
 // postfix_expr
-#[cycle(args_arr_atom_blk_body_bx_call_cast_cplx_ctl_dcal_decl_def_els_expr_bp_fors_gate_gdef_gph_ids_idx_ifs_io_lhs_list_meas_mods_more_opt_par_post_qarg_range_rest_ret_scal_set_sig_spec_stmt_sts_subs_sw_tup_width)]
+#[cycle(productions)]
 fn post(
     kinds: &[u16],
     joints: &[u64],
@@ -948,7 +950,7 @@ fn post(
 }
 
 // postfix_expr at `[`: indexed_identifier, or index_expr with or without an error
-#[cycle(args_arr_atom_blk_body_bx_call_cast_cplx_ctl_dcal_decl_def_els_expr_bp_fors_gate_gdef_gph_ids_idx_ifs_io_lhs_list_meas_mods_more_opt_par_post_qarg_range_rest_ret_scal_set_sig_spec_stmt_sts_subs_sw_tup_width)]
+#[cycle(productions)]
 fn idx(
     kinds: &[u16],
     joints: &[u64],
@@ -973,7 +975,7 @@ fn idx(
 }
 
 // call_expr
-#[cycle(args_arr_atom_blk_body_bx_call_cast_cplx_ctl_dcal_decl_def_els_expr_bp_fors_gate_gdef_gph_ids_idx_ifs_io_lhs_list_meas_mods_more_opt_par_post_qarg_range_rest_ret_scal_set_sig_spec_stmt_sts_subs_sw_tup_width)]
+#[cycle(productions)]
 fn call(
     kinds: &[u16],
     joints: &[u64],
@@ -1008,7 +1010,7 @@ fn call(
 }
 
 // type_spec, with array_type_spec
-#[cycle(args_arr_atom_blk_body_bx_call_cast_cplx_ctl_dcal_decl_def_els_expr_bp_fors_gate_gdef_gph_ids_idx_ifs_io_lhs_list_meas_mods_more_opt_par_post_qarg_range_rest_ret_scal_set_sig_spec_stmt_sts_subs_sw_tup_width)]
+#[cycle(productions)]
 fn spec(kinds: &[u16], joints: &[u64], room: &mut [u32], p: Parser, mode: u8, left: u32) -> Parser
     requires { Fit p }
     ensures { Does (env kinds.now joints.now) (counted (table_of mode) left).type_spec (view p room.old) tt (view result room.new) }
@@ -1049,7 +1051,7 @@ fn spec(kinds: &[u16], joints: &[u64], room: &mut [u32], p: Parser, mode: u8, le
 }
 
 // non_array_type_spec
-#[cycle(args_arr_atom_blk_body_bx_call_cast_cplx_ctl_dcal_decl_def_els_expr_bp_fors_gate_gdef_gph_ids_idx_ifs_io_lhs_list_meas_mods_more_opt_par_post_qarg_range_rest_ret_scal_set_sig_spec_stmt_sts_subs_sw_tup_width)]
+#[cycle(productions)]
 fn scal(kinds: &[u16], joints: &[u64], room: &mut [u32], p: Parser, mode: u8, left: u32) -> Parser
     requires { Fit p }
     ensures { Does (env kinds.now joints.now) (E.non_array_type_spec (counted (table_of mode) left)) (view p room.old) tt (view result room.new) }
@@ -1068,7 +1070,7 @@ fn scal(kinds: &[u16], joints: &[u64], room: &mut [u32], p: Parser, mode: u8, le
 }
 
 // complex_type_spec
-#[cycle(args_arr_atom_blk_body_bx_call_cast_cplx_ctl_dcal_decl_def_els_expr_bp_fors_gate_gdef_gph_ids_idx_ifs_io_lhs_list_meas_mods_more_opt_par_post_qarg_range_rest_ret_scal_set_sig_spec_stmt_sts_subs_sw_tup_width)]
+#[cycle(productions)]
 fn cplx(kinds: &[u16], joints: &[u64], room: &mut [u32], p: Parser, mode: u8, left: u32) -> Parser
     requires { Fit p }
     ensures { Does (env kinds.now joints.now) (counted (table_of mode) left).complex_type_spec (view p room.old) tt (view result room.new) }
@@ -1098,7 +1100,7 @@ fn cplx(kinds: &[u16], joints: &[u64], room: &mut [u32], p: Parser, mode: u8, le
 }
 
 // designator
-#[cycle(args_arr_atom_blk_body_bx_call_cast_cplx_ctl_dcal_decl_def_els_expr_bp_fors_gate_gdef_gph_ids_idx_ifs_io_lhs_list_meas_mods_more_opt_par_post_qarg_range_rest_ret_scal_set_sig_spec_stmt_sts_subs_sw_tup_width)]
+#[cycle(productions)]
 fn width(kinds: &[u16], joints: &[u64], room: &mut [u32], p: Parser, mode: u8, left: u32) -> Parser
     requires { Fit p }
     ensures { Does (env kinds.now joints.now) (E.designator (counted (table_of mode) left)) (view p room.old) tt (view result room.new) }
@@ -1114,7 +1116,7 @@ fn width(kinds: &[u16], joints: &[u64], room: &mut [u32], p: Parser, mode: u8, l
 }
 
 // indexed_identifier
-#[cycle(args_arr_atom_blk_body_bx_call_cast_cplx_ctl_dcal_decl_def_els_expr_bp_fors_gate_gdef_gph_ids_idx_ifs_io_lhs_list_meas_mods_more_opt_par_post_qarg_range_rest_ret_scal_set_sig_spec_stmt_sts_subs_sw_tup_width)]
+#[cycle(productions)]
 fn ids(
     kinds: &[u16],
     joints: &[u64],
@@ -1138,7 +1140,7 @@ fn ids(
 }
 
 // set_expression
-#[cycle(args_arr_atom_blk_body_bx_call_cast_cplx_ctl_dcal_decl_def_els_expr_bp_fors_gate_gdef_gph_ids_idx_ifs_io_lhs_list_meas_mods_more_opt_par_post_qarg_range_rest_ret_scal_set_sig_spec_stmt_sts_subs_sw_tup_width)]
+#[cycle(productions)]
 fn set(kinds: &[u16], joints: &[u64], room: &mut [u32], p: Parser, mode: u8, left: u32) -> Parser
     requires { Fit p }
     ensures { Does (env kinds.now joints.now) (E.set_expression (counted (table_of mode) left)) (view p room.old) tt (view result room.new) }
@@ -1153,7 +1155,7 @@ fn set(kinds: &[u16], joints: &[u64], room: &mut [u32], p: Parser, mode: u8, lef
 }
 
 // index_operator
-#[cycle(args_arr_atom_blk_body_bx_call_cast_cplx_ctl_dcal_decl_def_els_expr_bp_fors_gate_gdef_gph_ids_idx_ifs_io_lhs_list_meas_mods_more_opt_par_post_qarg_range_rest_ret_scal_set_sig_spec_stmt_sts_subs_sw_tup_width)]
+#[cycle(productions)]
 fn subs(kinds: &[u16], joints: &[u64], room: &mut [u32], p: Parser, mode: u8, left: u32) -> Parser
     requires { Fit p }
     ensures { Does (env kinds.now joints.now) (E.index_operator (counted (table_of mode) left)) (view p room.old) tt (view result room.new) }
@@ -1171,7 +1173,7 @@ fn subs(kinds: &[u16], joints: &[u64], room: &mut [u32], p: Parser, mode: u8, le
 }
 
 // call_arg_list, with its use of `delimited`
-#[cycle(args_arr_atom_blk_body_bx_call_cast_cplx_ctl_dcal_decl_def_els_expr_bp_fors_gate_gdef_gph_ids_idx_ifs_io_lhs_list_meas_mods_more_opt_par_post_qarg_range_rest_ret_scal_set_sig_spec_stmt_sts_subs_sw_tup_width)]
+#[cycle(productions)]
 fn args(kinds: &[u16], joints: &[u64], room: &mut [u32], p: Parser, mode: u8, left: u32) -> Parser
     requires { Fit p }
     ensures { Does (env kinds.now joints.now) (E.call_arg_list (counted (table_of mode) left)) (view p room.old) tt (view result room.new) }
@@ -1204,7 +1206,7 @@ fn args(kinds: &[u16], joints: &[u64], room: &mut [u32], p: Parser, mode: u8, le
 // ---- src/grammar/items.rs
 
 // opt_item, with qubit_declaration_stmt, qubit_type_spec, while_stmt and cal_: the arms of its match before `reset`
-#[cycle(args_arr_atom_blk_body_bx_call_cast_cplx_ctl_dcal_decl_def_els_expr_bp_fors_gate_gdef_gph_ids_idx_ifs_io_lhs_list_meas_mods_more_opt_par_post_qarg_range_rest_ret_scal_set_sig_spec_stmt_sts_subs_sw_tup_width)]
+#[cycle(productions)]
 fn opt(
     kinds: &[u16],
     joints: &[u64],
@@ -1362,7 +1364,7 @@ fn opt(
 }
 
 // the arms of opt_item from `reset` on, with reset_stmt, barrier_, alias_stmt and delay_stmt
-#[cycle(args_arr_atom_blk_body_bx_call_cast_cplx_ctl_dcal_decl_def_els_expr_bp_fors_gate_gdef_gph_ids_idx_ifs_io_lhs_list_meas_mods_more_opt_par_post_qarg_range_rest_ret_scal_set_sig_spec_stmt_sts_subs_sw_tup_width)]
+#[cycle(productions)]
 fn more(
     kinds: &[u16],
     joints: &[u64],
@@ -1504,7 +1506,7 @@ fn more(
 }
 
 // switch_case_stmt
-#[cycle(args_arr_atom_blk_body_bx_call_cast_cplx_ctl_dcal_decl_def_els_expr_bp_fors_gate_gdef_gph_ids_idx_ifs_io_lhs_list_meas_mods_more_opt_par_post_qarg_range_rest_ret_scal_set_sig_spec_stmt_sts_subs_sw_tup_width)]
+#[cycle(productions)]
 fn sw(
     kinds: &[u16],
     joints: &[u64],
@@ -1550,7 +1552,7 @@ fn sw(
 }
 
 // if_stmt
-#[cycle(args_arr_atom_blk_body_bx_call_cast_cplx_ctl_dcal_decl_def_els_expr_bp_fors_gate_gdef_gph_ids_idx_ifs_io_lhs_list_meas_mods_more_opt_par_post_qarg_range_rest_ret_scal_set_sig_spec_stmt_sts_subs_sw_tup_width)]
+#[cycle(productions)]
 fn ifs(
     kinds: &[u16],
     joints: &[u64],
@@ -1589,7 +1591,7 @@ fn ifs(
 }
 
 // for_stmt
-#[cycle(args_arr_atom_blk_body_bx_call_cast_cplx_ctl_dcal_decl_def_els_expr_bp_fors_gate_gdef_gph_ids_idx_ifs_io_lhs_list_meas_mods_more_opt_par_post_qarg_range_rest_ret_scal_set_sig_spec_stmt_sts_subs_sw_tup_width)]
+#[cycle(productions)]
 fn fors(
     kinds: &[u16],
     joints: &[u64],
@@ -1623,7 +1625,7 @@ fn fors(
 }
 
 // the end of for_stmt: its iterable, and its body
-#[cycle(args_arr_atom_blk_body_bx_call_cast_cplx_ctl_dcal_decl_def_els_expr_bp_fors_gate_gdef_gph_ids_idx_ifs_io_lhs_list_meas_mods_more_opt_par_post_qarg_range_rest_ret_scal_set_sig_spec_stmt_sts_subs_sw_tup_width)]
+#[cycle(productions)]
 fn rest(
     kinds: &[u16],
     joints: &[u64],
@@ -1648,7 +1650,7 @@ fn rest(
 }
 
 // gate_definition
-#[cycle(args_arr_atom_blk_body_bx_call_cast_cplx_ctl_dcal_decl_def_els_expr_bp_fors_gate_gdef_gph_ids_idx_ifs_io_lhs_list_meas_mods_more_opt_par_post_qarg_range_rest_ret_scal_set_sig_spec_stmt_sts_subs_sw_tup_width)]
+#[cycle(productions)]
 fn gdef(
     kinds: &[u16],
     joints: &[u64],
@@ -1675,7 +1677,7 @@ fn gdef(
 }
 
 // defcal_
-#[cycle(args_arr_atom_blk_body_bx_call_cast_cplx_ctl_dcal_decl_def_els_expr_bp_fors_gate_gdef_gph_ids_idx_ifs_io_lhs_list_meas_mods_more_opt_par_post_qarg_range_rest_ret_scal_set_sig_spec_stmt_sts_subs_sw_tup_width)]
+#[cycle(productions)]
 fn dcal(
     kinds: &[u16],
     joints: &[u64],
@@ -1700,7 +1702,7 @@ fn dcal(
 }
 
 // _returns_bool_classical_declaration_stmt
-#[cycle(args_arr_atom_blk_body_bx_call_cast_cplx_ctl_dcal_decl_def_els_expr_bp_fors_gate_gdef_gph_ids_idx_ifs_io_lhs_list_meas_mods_more_opt_par_post_qarg_range_rest_ret_scal_set_sig_spec_stmt_sts_subs_sw_tup_width)]
+#[cycle(productions)]
 fn decl(
     kinds: &[u16],
     joints: &[u64],
@@ -1757,7 +1759,7 @@ fn decl(
 }
 
 // io_declaration_stmt
-#[cycle(args_arr_atom_blk_body_bx_call_cast_cplx_ctl_dcal_decl_def_els_expr_bp_fors_gate_gdef_gph_ids_idx_ifs_io_lhs_list_meas_mods_more_opt_par_post_qarg_range_rest_ret_scal_set_sig_spec_stmt_sts_subs_sw_tup_width)]
+#[cycle(productions)]
 fn io(
     kinds: &[u16],
     joints: &[u64],
@@ -1786,7 +1788,7 @@ fn io(
 }
 
 // def_stmt
-#[cycle(args_arr_atom_blk_body_bx_call_cast_cplx_ctl_dcal_decl_def_els_expr_bp_fors_gate_gdef_gph_ids_idx_ifs_io_lhs_list_meas_mods_more_opt_par_post_qarg_range_rest_ret_scal_set_sig_spec_stmt_sts_subs_sw_tup_width)]
+#[cycle(productions)]
 fn def(
     kinds: &[u16],
     joints: &[u64],

@@ -1,5 +1,7 @@
 // The types that the definitions speak of, and the functions that several files of the grammar call: src/grammar.rs, `hardware_qubit` and
 // `var_name`. Other productions that call nothing recursive are in the crates terms and statements, the rest is in cycle.
+#![tactic(auto)]
+
 ghost use Rattle.std.specs.Prelude.{◌≡◌};
 ghost use Rattle.input.specs.Input.{env};
 ghost use Rattle.runtime.specs.State.{view, Fit};
@@ -14,42 +16,42 @@ use kinds::{messages as say, syntax_kind as kind, syntax_kind_enum as k};
 use runtime::parser::{Completed, Done, Parser, Told};
 
 // `Option<Marker>`: a marker that is handed over, or none.
-#[derive(Drop)]
+#[derive(Clone, Copy)]
 pub enum Mark {
     Given(u32),
     Fresh,
 }
 
 // `Option<(CompletedMarker, BlockLike)>`: a completed marker and whether it is block-like, or none.
-#[derive(Drop)]
+#[derive(Clone, Copy)]
 pub enum Got {
     Is(Completed, bool),
     Nothing,
 }
 
 // `Result<(), Marker>`: the marker that was offered is taken, or handed back.
-#[derive(Drop)]
+#[derive(Clone, Copy)]
 pub enum Offer {
     Taken,
     Back(u32),
 }
 
 // The state and what became of an offered marker.
-#[derive(Drop)]
+#[derive(Clone, Copy)]
 pub struct Offered {
     pub p: Parser,
     pub offer: Offer,
 }
 
 // The state and what was parsed.
-#[derive(Drop)]
+#[derive(Clone, Copy)]
 pub struct Parsed {
     pub p: Parser,
     pub got: Got,
 }
 
 // What follows an element of an array.
-#[derive(Drop)]
+#[derive(Clone, Copy)]
 pub enum Next {
     Semi,
     Comma,
@@ -57,14 +59,14 @@ pub enum Next {
 }
 
 // The state and what follows an element.
-#[derive(Drop)]
+#[derive(Clone, Copy)]
 pub struct Follows {
     pub p: Parser,
     pub next: Next,
 }
 
 // Which list is parsed.
-#[derive(Drop)]
+#[derive(Clone, Copy)]
 pub enum DefFlavor {
     GateParams,
     GateQubits,
@@ -76,7 +78,7 @@ pub enum DefFlavor {
 }
 
 // How a parameter is parsed.
-#[derive(Drop)]
+#[derive(Clone, Copy)]
 pub enum How {
     Expr,
     Qubit,
@@ -86,7 +88,7 @@ pub enum How {
 
 // What a flavor says of its list: whether it stands in parentheses, the two kinds that end it, whether it must not be empty, the
 // node that it makes, and how a parameter is parsed.
-#[derive(Drop)]
+#[derive(Clone, Copy)]
 pub struct Shape {
     pub parens: bool,
     pub end: u16,

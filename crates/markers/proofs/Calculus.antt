@@ -44,7 +44,7 @@ pub record Run {A : Type 0} (xs : Marks) (m : Acts A) (ys : A → Marks) : Type 
 abbrev pub none : {A : Type 0} → A → Marks
 none a = []
 
-peel : {x : Marker} {zs o r : Marks} → Opens o (x ∷ zs) r → (t : Marks) × Opens o zs t × ((w ys : Marks) → Opens w ys t → Opens w (x ∷ ys) r)
+peel : {o : Marks} {x : Marker} {zs r : Marks} → Opens o (x ∷ zs) r → (t : Marks) × Opens o zs t × ((w ys : Marks) → Opens w ys t → Opens w (x ∷ ys) r)
 peel (extra p) = let u = peel p in (u.0, u.1, λ w ys q. extra (u.2 w ys q))
 peel (keep p) = (_, p, λ w ys q. keep q)
 
@@ -52,7 +52,7 @@ split : (xs : Marks) {us o r : Marks} → Opens o (xs ++ us) r → (w : Marks) �
 split [] p = (_, base, p)
 split (x ∷ xs) p = let u = peel p in let v = split xs u.1 in (v.0, u.2 v.0 xs v.1, v.2)
 
-join : {xs us o r w : Marks} → Opens w xs r → Opens o us w → Opens o (xs ++ us) r
+join : {w : Marks} {xs us o r : Marks} → Opens w xs r → Opens o us w → Opens o (xs ++ us) r
 join base q = q
 join (extra p) q = extra (join p q)
 join (keep p) q = keep (join p q)
@@ -91,11 +91,11 @@ if true x y h k = h
 if false x y h k = k
 
 -- a completed marker that nobody asks for: the newest, and the one before it
-pub less : {i : ℕ} {us o r : Marks} → Opens o (shut i ∷ us) r → Opens o us r
+pub less : {o : Marks} {i : ℕ} {us r : Marks} → Opens o (shut i ∷ us) r → Opens o us r
 less (extra p) = extra (less p)
 less (keep p) = extra p
 
-under : {i : ℕ} {x : Marker} {us o r : Marks} → Opens o (x ∷ shut i ∷ us) r → Opens o (x ∷ us) r
+under : {o : Marks} {i : ℕ} {x : Marker} {us r : Marks} → Opens o (x ∷ shut i ∷ us) r → Opens o (x ∷ us) r
 under (extra p) = extra (under p)
 under (keep p) = keep (less p)
 
@@ -107,22 +107,26 @@ lose m i ys h = record { runs = λ o r p. weaken m r (λ a t. Opens o (shut (i a
 
 -- The marker acts.
 closes_in : {i : ℕ} {o xs ys r : Marks} → Closes i xs ys → Opens o xs r → (t : Marks) × Closes i r t × Opens o ys t
+closes_in {i = i} {o = o} {ys = ys} c base = elim c [ ]
 closes_in c (extra p) = let u = closes_in c p in (_, there u.1, extra u.2)
 closes_in one (keep p) = (_, one, keep p)
 closes_in other (keep p) = (_, other, keep p)
 closes_in (there c) (keep p) = let u = closes_in c p in (_, there u.1, keep u.2)
 
 drops-in : {i : ℕ} {o xs ys r : Marks} → Drops i xs ys → Opens o xs r → (t : Marks) × Drops i r t × Opens o ys t
+drops-in {i = i} {o = o} {ys = ys} c base = elim c [ ]
 drops-in c (extra p) = let u = drops-in c p in (_, there u.1, extra u.2)
 drops-in here (keep p) = (_, here, p)
 drops-in (there c) (keep p) = let u = drops-in c p in (_, there u.1, keep u.2)
 
 has_in : {i : ℕ} {o xs r : Marks} → Has i xs → Opens o xs r → Has i r
+has_in {i = i} {o = o} c base = elim c [ ]
 has_in c (extra p) = there (has_in c p)
 has_in here (keep p) = here
 has_in (there c) (keep p) = there (has_in c p)
 
 extends-in : {i j : ℕ} {o xs ys r : Marks} → Extends i j xs ys → Opens o xs r → (t : Marks) × Extends i j r t × Opens o ys t
+extends-in {i = i} {j = j} {o = o} {ys = ys} c base = elim c [ ]
 extends-in c (extra p) = let u = extends-in c p in (_, there u.1, extra u.2)
 extends-in (here d) (keep p) = let u = drops-in d p in (_, here u.1, keep u.2)
 extends-in (there c) (keep p) = let u = extends-in c p in (_, there u.1, keep u.2)

@@ -93,26 +93,26 @@ pub data Extends (i j : ℕ) : Marks → Marks → Type 0 where
   there : {x : Marker} {o o' : Marks} → Extends i j o o' → Extends i j (x ∷ o) (x ∷ o')
 
 -- where they stand
-pub closes_at : (n i : ℕ) (l : List Event) {o o' : Marks} → Closes i o o' → Fits n l o → (i < n) × (is_bare (at l i) ≡ true)
-closes_at n i l one h = (h.0, h.1.0)
-closes_at n i l other h = (h.0, h.1)
-closes_at n i l (there {x = x} c) h = let r = closes_at (spot x) i l c h.2 in (omega (arith, r.0, h.0), r.1)
+pub closes_at : (i n : ℕ) (l : List Event) {o o' : Marks} → Closes i o o' → Fits n l o → (i < n) × (is_bare (at l i) ≡ true)
+closes_at i n l one h = (h.0, h.1.0)
+closes_at i n l other h = (h.0, h.1)
+closes_at i n l (there {x = x} c) h = let r = closes_at i (spot x) l c h.2 in (omega (arith, r.0, h.0), r.1)
 
-pub drops-at : (n i : ℕ) (l : List Event) {o o' : Marks} → Drops i o o' → Fits n l o → (i < n) × (is_bare (at l i) ≡ true) × Free l i
-drops-at n i l here h = (h.0, h.1.0, h.1.1)
-drops-at n i l (there {x = x} c) h = let r = drops-at (spot x) i l c h.2 in (omega (arith, r.0, h.0), r.1, r.2)
+pub drops-at : (i n : ℕ) (l : List Event) {o o' : Marks} → Drops i o o' → Fits n l o → (i < n) × (is_bare (at l i) ≡ true) × Free l i
+drops-at i n l here h = (h.0, h.1.0, h.1.1)
+drops-at i n l (there {x = x} c) h = let r = drops-at i (spot x) l c h.2 in (omega (arith, r.0, h.0), r.1, r.2)
 
-pub has-at : (n i : ℕ) (l : List Event) {o : Marks} → Has i o → Fits n l o → (i < n) × (is_start (at l i) ≡ true)
-has-at n i l here h = (h.0, h.1)
-has-at n i l (there {x = x} c) h = let r = has-at (spot x) i l c h.2 in (omega (arith, r.0, h.0), r.1)
+pub has-at : (i n : ℕ) (l : List Event) {o : Marks} → Has i o → Fits n l o → (i < n) × (is_start (at l i) ≡ true)
+has-at i n l here h = (h.0, h.1)
+has-at i n l (there {x = x} c) h = let r = has-at i (spot x) l c h.2 in (omega (arith, r.0, h.0), r.1)
 
-pub extends-at : (n i j : ℕ) (l : List Event) {o o' : Marks} → Extends i j o o' → Fits n l o → (i < j) × (j < n) × (is_start (at l i) ≡ true) × (is_start (at l j) ≡ true)
-extends-at n i j l (here d) h = let r = drops-at j i l d h.2 in (r.0, h.0, bare-start (at l i) r.1, h.1)
-extends-at n i j l (there {x = x} t) h = let r = extends-at (spot x) i j l t h.2 in (r.0, omega (arith, r.1, h.0), r.2, r.3)
+pub extends-at : (i j n : ℕ) (l : List Event) {o o' : Marks} → Extends i j o o' → Fits n l o → (i < j) × (j < n) × (is_start (at l i) ≡ true) × (is_start (at l j) ≡ true)
+extends-at i j n l (here d) h = let r = drops-at i j l d h.2 in (r.0, h.0, bare-start (at l i) r.1, h.1)
+extends-at i j n l (there {x = x} t) h = let r = extends-at i j (spot x) l t h.2 in (r.0, omega (arith, r.1, h.0), r.2, r.3)
 
-pub bare-extends : (n i j : ℕ) (l : List Event) {o o' : Marks} → Extends i j o o' → Fits n l o → is_bare (at l i) ≡ true
-bare-extends n i j l (here d) h = (drops-at j i l d h.2).1
-bare-extends n i j l (there {x = x} t) h = bare-extends (spot x) i j l t h.2
+pub bare-extends : (i j n : ℕ) (l : List Event) {o o' : Marks} → Extends i j o o' → Fits n l o → is_bare (at l i) ≡ true
+bare-extends i j n l (here d) h = (drops-at i j l d h.2).1
+bare-extends i j n l (there {x = x} t) h = bare-extends i j (spot x) l t h.2
 
 bare-tomb : (v : Event) → is_bare v ≡ true → is_tomb v ≡ true
 bare-tomb (Start k d) h = by (eqb k 0) h
@@ -161,7 +161,7 @@ module _ (l : List Event) (i k : ℕ) (bare : is_bare (at l i) ≡ true) where
   fits-closes n (one {o = o}) h = (h.0, start-set l i (with_kind k (at l i)) is-start (named_start (at l i) bare) i is-start, fits-same i l _ o (λ x g. kept x (λ e. omega arith)) h.2)
   fits-closes n (other {o = o}) h = (h.0, start-set l i (with_kind k (at l i)) is-start (named_start (at l i) bare) i is-start, fits-same i l _ o (λ x g. kept x (λ e. omega arith)) h.2)
   fits-closes n (there {x = x} c) h =
-      let r = closes_at (spot x) i l c h.2 in
+      let r = closes_at i (spot x) l c h.2 in
       (h.0, kept x (λ e. omega (arith, r.0)) h.1, fits-closes (spot x) c h.2)
 
   pub live-complete : {o o' : Marks} → (k ≡ 0 → ⊥) → k < 65536 → Closes i o o' → Live o l → Live o' (set l i (with_kind k (at l i)) ++ Finish ∷ [])
@@ -176,20 +176,20 @@ module _ (l : List Event) (i k : ℕ) (bare : is_bare (at l i) ≡ true) where
       }
 
 -- `abandon` of a start that is not the last event, and of one that is
-fits-drops : (n i : ℕ) (l : List Event) {o o' : Marks} → Drops i o o' → Fits n l o → Fits n l o'
-fits-drops n i l (here {o = o}) h = fits_more i n l o (omega (arith, h.0)) h.2
-fits-drops n i l (there {x = x} d) h = (h.0, h.1, fits-drops (spot x) i l d h.2)
+fits-drops : (i n : ℕ) (l : List Event) {o o' : Marks} → Drops i o o' → Fits n l o → Fits n l o'
+fits-drops i n l (here {o = o}) h = fits_more i n l o (omega (arith, h.0)) h.2
+fits-drops i n l (there {x = x} d) h = (h.0, h.1, fits-drops i (spot x) l d h.2)
 
 pub live-drop : (i : ℕ) (l : List Event) {o o' : Marks} → Drops i o o' → Live o l → Live o' l
-live-drop i l d h = record { balance = h.balance; links = h.links; sounds = h.sounds; marks = fits-drops (length l) i l d h.marks }
+live-drop i l d h = record { balance = h.balance; links = h.links; sounds = h.sounds; marks = fits-drops i (length l) l d h.marks }
 
 fits-popped : (n : ℕ) (l : List Event) → length l ≡ n + 1 → {o o' : Marks} → Drops n o o' → Fits (n + 1) l o → Fits n (take n l) o'
 fits-popped n l q (here {o = o}) h = fits-same n l (take n l) o (is-take l n q) h.2
-fits-popped n l q (there {x = x} d) h = absurd (omega (arith, (drops-at (spot x) n l d h.2).0, h.0))
+fits-popped n l q (there {x = x} d) h = absurd (omega (arith, (drops-at n (spot x) l d h.2).0, h.0))
 
 pub live-pop : (n : ℕ) (l : List Event) {o o' : Marks} → length l ≡ n + 1 → Drops n o o' → Live o l → Live o' (take n l)
 live-pop n l {o} {o'} q d h =
-    let r = drops-at (length l) n l d h.marks in
+    let r = drops-at n (length l) l d h.marks in
     let t : length (take n l) ≡ n = length-take-le n l (omega arith) in
     record {
       balance = balanced-take 0 0 l n (omega arith) (bare-tomb (at l n) r.1) h.balance;
@@ -246,20 +246,20 @@ module _ (l : List Event) (i j : ℕ) (si : is_start (at l i) ≡ true) (sj : is
   fits-has : (n : ℕ) {o : Marks} → n ≤ j → Has i o → Fits n l o → Fits n (set l i (with_distance (j - i) (at l i))) o
   fits-has n m (here {o = o}) h = (h.0, starts-stay i si, fits-same i l _ o (λ x g. apart_from x (λ e. omega arith) (λ e. omega arith)) h.2)
   fits-has n m (there {x = x} c) h =
-      let r = has-at (spot x) i l c h.2 in
+      let r = has-at i (spot x) l c h.2 in
       (h.0, apart_from x (λ e. omega (arith, r.0)) (λ e. omega (arith, h.0)) h.1, fits-has (spot x) (omega (arith, h.0)) c h.2)
 
   -- markers of which one, fresh, at i goes, and which all are below j
   fits-off : (n : ℕ) {o o' : Marks} → n ≤ j → Drops i o o' → Fits n l o → Fits n (set l i (with_distance (j - i) (at l i))) o'
   fits-off n m (here {o = o}) h = fits_more i n _ o (omega (arith, h.0)) (fits-same i l _ o (λ x g. apart_from x (λ e. omega arith) (λ e. omega arith)) h.2)
   fits-off n m (there {x = x} d) h =
-      let r = drops-at (spot x) i l d h.2 in
+      let r = drops-at i (spot x) l d h.2 in
       (h.0, apart_from x (λ e. omega (arith, r.0)) (λ e. omega (arith, h.0)) h.1, fits-off (spot x) (omega (arith, h.0)) d h.2)
 
   fits-extends : (n : ℕ) {o o' : Marks} → Extends i j o o' → Fits n l o → Fits n (set l i (with_distance (j - i) (at l i))) o'
   fits-extends n (here d) h = (h.0, starts-stay j sj, fits-off j (omega arith) d h.2)
   fits-extends n (there {x = x} t) h =
-      let r = extends-at (spot x) i j l t h.2 in
+      let r = extends-at i j (spot x) l t h.2 in
       (h.0, apart_from x (λ e. omega (arith, r.0, r.1)) (λ e. omega (arith, r.1)) h.1, fits-extends (spot x) t h.2)
 
   pub live-extend : {o o' : Marks} → Extends i j o o' → Live o l → Live o' (set l i (with_distance (j - i) (at l i)))

@@ -8,7 +8,7 @@ use Rattle.kinds.specs.Kinds.{SEMICOLON, COMMA, AT, L-PAREN, R-PAREN, L-BRACK, R
 use Rattle.kinds.specs.Sets.{EXPR-FIRST, CLASSICAL-TYPES, QUBIT-FIRST, LITERAL-FIRST, TIMING-LITERAL-FIRST}
 use Rattle.kinds.specs.Messages.{UNEXPECTED-STRING-LITERAL, ATOM-EXPR-EXPECTED-EXPRESSION}
 use Rattle.runtime.specs.declared.parser.Completed.{Completed}
-use Rattle.runtime.specs.Acts.{Acts, Acts.done, ◌>>=◌, ◌>>◌, current, nth, Turn, Turn.more, Turn.last}
+use Rattle.runtime.specs.Acts.{Acts, Acts.done, ◌>>=◌, current, nth, Turn, Turn.more, Turn.last}
 use Rattle.grammar.specs.declared.Got.{Got}
 use Rattle.grammar.specs.declared.Got.TheVariants.{Is, Nothing}
 use Rattle.grammar.specs.declared.Next.{Next}

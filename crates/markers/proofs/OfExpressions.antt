@@ -19,7 +19,7 @@ use Rattle.grammar.specs.Grammar.{Counted}
 use Rattle.operators.specs.Operators.{Guards, Table, arms, first_at, arm_of, current_op}
 use Rattle.grammar.specs.Expressions.{Later, type_name, marker, lacks_expr, assigned, no_assignment, close_op, cast_ahead, stmt_lacks_expr, no_semicolon, stmt_end, literal_designator, array_base, unindexed, args_end, var_name, expr, range_expr, expr_or_range_expr, let_stmt, expr_block_contents_round, expr_block_contents, designator, non_array_type_spec, array_type_spec_round, array_type_spec, type_spec, complex_type_spec, qubit_type_spec, set_expression, index_operator, index_expr, indexed_identifier_round, indexed_identifier, indexed, call_arg_list, call_expr, postfix_expr_round, postfix_expr, lhs, expr_bp_round, expr_bp, no_item, stmt}
 use Rattle.markers.proofs.Marks.{Marker.fresh, Marker.made, Marker.shut, Marks}
-use Rattle.markers.proofs.Calculus.{Run, none, then, also, from, ends, if, forget, run-start, run-precede, run-extend, run_look, run_at, run-at-ts, run-eat, run-refused, run-bump, run-bump-any, run-expect, run-error, run-must, run-goes-on, turns, run-repeats, run-err-recover, opening, closing, dropping, closed, closed-around, dropped, made_of, answered, answered-around, unread, perhaps, branch}
+use Rattle.markers.proofs.Calculus.{Run, none, then, also, from, ends, if, forget, run-start, run-precede, run-extend, run_look, run_at, run-at-ts, run-eat, run-refused, run-bump, run-bump-any, run-expect, run-error, run-must, run-goes-on, turns, run-repeats, run-err-recover, opening, closing, dropping, closed, closed-around, dropped, made_of, answered, answered-around, unread, perhaps}
 use Rattle.markers.proofs.Counted.{gotten, handed, unseen, Tidy}
 use Rattle.markers.proofs.OfGrammar.{fail-if-at, fail-unless-at, delimited-tidy}
 

@@ -1,6 +1,6 @@
 -- src/grammar/items.rs handles its markers well: a lemma for each definition. Assumes nothing.
 use mathlib.Core.List.{List, [], ◌∷◌}
-use mathlib.Core.Bool.{Bool, true, false, not, ◌&&◌}
+use mathlib.Core.Bool.{Bool, not, ◌&&◌}
 use Prim.Native.Nat.{ℕ}
 use lib.Dec.{T, eqb}
 use Rattle.kinds.specs.Membership.{one_of}
@@ -14,7 +14,7 @@ use Rattle.grammar.specs.Grammar.{Counted}
 use Rattle.grammar.specs.Items.{break, continue, end, filepath_r, defcalgrammar, include, skip_to_semicolon, version, version_string, io_type, qubit_end, declares, switch_case_stmt_round, switch_case_stmt, if_stmt, while_stmt, for_rest, for_stmt, qubit_declaration_stmt, reset_stmt, gate_definition, signature, defcal, classical_declaration_stmt, io_declaration_stmt, def_stmt, cal, barrier, delay_stmt, alias_stmt, statements, beginning, opt_item, unmatched, after_item, item, source_file_contents_round, source_file_contents}
 use Rattle.markers.proofs.Marks.{Marker.fresh}
 use Rattle.markers.proofs.Safe.{node_kind}
-use Rattle.markers.proofs.Calculus.{Run, none, frame, then, also, ends, if, run_look, run_at, run-eat, run-bump, run-bump-any, run-expect, run-error, run-must, run-repeats, run-err-recover, opening, closing, dropping, closed, dropped, unread, unasked, perhaps, branch}
+use Rattle.markers.proofs.Calculus.{Run, none, frame, then, also, ends, if, run_look, run_at, run-eat, run-bump, run-bump-any, run-expect, run-error, run-must, run-repeats, run-err-recover, opening, closing, dropping, closed, dropped, unread, unasked, perhaps}
 use Rattle.markers.proofs.Counted.{Tidy}
 use Rattle.markers.proofs.OfGrammar.{fail-unless-at, name-r, opt-ret-type}
 use Rattle.markers.proofs.OfExpressions.{var-name, expr-tidy, range-expr, expr-block-contents, designator-tidy, qubit-type-spec, set-expression, untaken}

@@ -167,7 +167,7 @@ completed s held i k {o} {o'} t c h = by (live s.p) refl
     by true q =
         let z : s.p.refused ≡ 0 = eqb-true _ _ q in
         let g : Live o (events s) = h.list z in
-        let w = closes_at (length (events s)) i (events s) c g.marks in
+        let w = closes_at i (length (events s)) (events s) c g.marks in
         let e : event_at s i ≡ at (events s) i = at-event s i held in
         let l : i < s.p.len = omega (arith, w.0, count s held) in
         let n = both-parts (ltb 0 k) (small k) t in
@@ -208,7 +208,7 @@ pointed s held m to {o'} g = by (live s.p) refl
 extended : (s : St) → Held s → s.p.len ≤ 65536 → (i j : ℕ) {o o' : Marks} → Extends i j o o' → WellMade o s → WellMade o' (linked i (gap i j) s)
 extended s held few i j {o} {o'} t h =
     pointed s held i j
-    (λ z. let g : Live o (events s) = h.list z in let w = extends-at (length (events s)) i j (events s) t g.marks in (w.0, omega (arith, w.1, count s held), w.2, live-extend (events s) i j w.2 w.3 w.0 t g))
+    (λ z. let g : Live o (events s) = h.list z in let w = extends-at i j (length (events s)) (events s) t g.marks in (w.0, omega (arith, w.1, count s held), w.2, live-extend (events s) i j w.2 w.3 w.0 t g))
 
 preceded : (s : St) → Held s → Held (push_event (Start TOMBSTONE 0) s) → s.p.len ≤ 65536 → (i : ℕ) {o : Marks} → Has i o → WellMade o s → WellMade (made s.p.len ∷ o) (linked i (gap i s.p.len) (push_event (Start TOMBSTONE 0) s))
 preceded s held after few i {o} c h =
@@ -216,7 +216,7 @@ preceded s held after few i {o} c h =
     (λ z.
     let l : List Event = events (push_event (Start TOMBSTONE 0) s) in
     let g : Live (fresh s.p.len ∷ o) (events (push_event (Start TOMBSTONE 0) s)) = (started s held o h).list z in
-    let w = has-at s.p.len i (events (push_event (Start TOMBSTONE 0) s)) c g.marks.2 in
+    let w = has-at i s.p.len (events (push_event (Start TOMBSTONE 0) s)) c g.marks.2 in
     (w.0, few, w.1, live-precede (events (push_event (Start TOMBSTONE 0) s)) i s.p.len w.1 (bare-start (at (events (push_event (Start TOMBSTONE 0) s)) s.p.len) g.marks.1.0) w.0 c g))
 
 -- a kind that is glued is one of the table's, and every other kind is its own token's
@@ -282,22 +282,22 @@ module _ (e : Env) (b : Bounded e) (o : Marks) (s : St) (f : Fit s.p) (d : Held 
   lawful takes = bumped s d e o (kind_ahead e s.p 0) 1 (λ y. (seen-small e b s.p.refused (s.p.pos + 0), omega arith, omega arith)) h
   lawful starts = λ r q. (λ z. tt, rw q (started s d o h))
   lawful (completes m k) = λ r q. (
-    λ z. (ap is_bare (at-event s m d) ∙ (closes_at (length (events s)) m (events s) q.1 (h.list z).marks).1, ltb→lt 0 k (both-parts (ltb 0 k) (small k) q.0).0),
+    λ z. (ap is_bare (at-event s m d) ∙ (closes_at m (length (events s)) (events s) q.1 (h.list z).marks).1, ltb→lt 0 k (both-parts (ltb 0 k) (small k) q.0).0),
     completed s d m k q.0 q.1 h,
   )
   lawful (abandons m) = λ r q. (
-    λ z. let w = drops-at (length (events s)) m (events s) q (h.list z).marks in (ap is_bare (at-event s m d) ∙ w.1, w.2),
+    λ z. let w = drops-at m (length (events s)) (events s) q (h.list z).marks in (ap is_bare (at-event s m d) ∙ w.1, w.2),
     abandoned s d m q h,
   )
   lawful (precedes m) = λ r q. (
-    λ z. ap is_start (at-event s m d) ∙ (has-at (length (events s)) m (events s) q.0 (h.list z).marks).1,
+    λ z. ap is_start (at-event s m d) ∙ (has-at m (length (events s)) (events s) q.0 (h.list z).marks).1,
     rw q.1 (preceded s d (kept_step e Held (helds e) starts s d) f.short m q.0 h),
   )
   lawful (extends to m) = λ r q. (
     λ z.
         let g = (h.list z).marks in
-        let w = extends-at (length (events s)) m to (events s) q g in
-        (ap is_bare (at-event s m d) ∙ bare-extends (length (events s)) m to (events s) q g, ap is_start (at-event s to d) ∙ w.3, w.0),
+        let w = extends-at m to (length (events s)) (events s) q g in
+        (ap is_bare (at-event s m d) ∙ bare-extends m to (length (events s)) (events s) q g, ap is_start (at-event s to d) ∙ w.3, w.0),
     extended s d f.short m to q h,
   )
   lawful (fails c a) = λ r q.

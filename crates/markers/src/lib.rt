@@ -1,1 +1,2 @@
 // Proofs alone: what the marker acts of the grammar leave.
+#![tactic(auto)]

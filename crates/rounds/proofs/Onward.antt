@@ -8,7 +8,7 @@ use Rattle.kinds.specs.Kinds.{EOF}
 use Rattle.input.specs.Input.{Env}
 use Rattle.input.proofs.Reading.{unseen}
 use Rattle.runtime.specs.State.{St, live, looked}
-use Rattle.runtime.specs.Acts.{Acts, Acts.done, ◌>>=◌, run, step, current, nth, Turn, Turn.more, Turn.last, iter, left, rounds, repeats}
+use Rattle.runtime.specs.Acts.{Acts, Acts.done, ◌>>=◌, run, step, current, Turn, Turn.more, Turn.last, iter, left, rounds, repeats}
 use Rattle.runtime.proofs.Laws.{run_bind, most-left, Spends, spends-first, spends-nth, left-live}
 
 -- where the acts end with a round that goes on, P holds of what they leave

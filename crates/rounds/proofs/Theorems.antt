@@ -2,15 +2,14 @@
 use mathlib.Core.Path.{◌≡◌, refl, sym, ap, ◌∙◌}
 use mathlib.Core.Bool.{Bool, true, false, not, ◌&&◌, cond}
 use mathlib.Core.List.{List}
-use Prim.Native.Nat.{ℕ, zero, suc, ◌+◌, ◌≤◌, ◌<◌}
+use Prim.Native.Nat.{ℕ, ◌≤◌, ◌<◌}
 use native.Mathlib.Omega.{arith}
 use lib.Dec.{ltb}
 use borrow.Author.Tests.{eqb-true, lt-ltb}
-use Rattle.kinds.specs.Kinds.{EOF, DOT3, R-PAREN, R-BRACK, L-BRACK, R-CURLY, COMMA, CASE-KW}
+use Rattle.kinds.specs.Kinds.{EOF, R-PAREN, R-BRACK, L-BRACK, R-CURLY, COMMA, CASE-KW}
 use Rattle.input.specs.Input.{Env}
-use Rattle.runtime.specs.declared.parser.Completed.{Completed}
 use Rattle.runtime.specs.State.{St, live}
-use Rattle.runtime.specs.Acts.{Acts, Acts.done, ◌>>=◌, ◌>>◌, run, step, at, start, current, goes_on, is_refused, bump_any, expect, sees, stopped, Turn, Turn.more, Turn.last, iter, left, rounds, repeats}
+use Rattle.runtime.specs.Acts.{Acts, Acts.done, ◌>>=◌, ◌>>◌, run, step, at, start, current, goes_on, is_refused, bump_any, expect, sees, stopped, Turn, Turn.more, Turn.last, left}
 use Rattle.runtime.proofs.Laws.{run_bind, goes_same, left-goes, left-sees, left-on, left-live, left-asked, Spends, spends-first, spends-rest, spends-bump}
 use Rattle.laws.proofs.Tests.{apart}
 use Rattle.operators.specs.declared.Op.{Op}
@@ -25,7 +24,7 @@ use Rattle.grammar.specs.Atom as A
 use Rattle.grammar.specs.Items as I
 use Rattle.grammar.specs.Entry.{counted, later}
 use Rattle.grammar.proofs.Spends.{expr_bp-spends, stmt-spends, item-spends, index-spends, ahead-spends, op-spends, no_power}
-use Rattle.rounds.proofs.Onward.{On, Less, Onward, Tells, never-out, on-last, on-more, on-spent, on-alive, on-cond, on_then, guarded, dead-look, looking}
+use Rattle.rounds.proofs.Onward.{On, Less, Onward, Tells, on-last, on-more, on-spent, on-alive, on-cond, on_then, guarded, dead-look, looking}
 
 -- the tests that change nothing
 goes-tells : (k : ℕ) → Tells (goes_on k)

@@ -1,0 +1,14 @@
+-- Written by tools/proofs from the code, the definitions and hints.py: docs/PRODUCTIONS.md says how to change it.
+-- `items::defcalgrammar_` meets its contract. Assumes nothing.
+use Rattle.runtime.proofs.Laws.{then, step, ends}
+use Rattle.grammar.specs.Items as I
+use Rattle.statements.proofs.items.defcalgrammar_.Goals as goal
+
+pub returns : goal.returns
+unfolding I.defcalgrammar
+returns c =
+    then _ _ _ _ c.bump-p1.ensures
+    (then _ _ _ _ c.filepath_r-p2.ensures
+    (then _ _ _ _ c.expect-t.ensures
+    (step _ _ _ _ c.complete-d.ensures
+    (ends _ _ _ c.complete-d.ensures.fit))))

@@ -1,0 +1,28 @@
+-- Written by tools/proofs from the code, the definitions and hints.py: docs/PRODUCTIONS.md says how to change it.
+-- `items::qubit_end` meets its contract. Assumes nothing.
+use Rattle.runtime.proofs.Laws.{then, step, see, ends}
+use Rattle.grammar.proofs.Laws.{assoc, cond-bind, done-bind}
+use Rattle.grammar.specs.Items as I
+use Rattle.statements.proofs.items.qubit_end.Goals as goal
+
+pub returns-then-at : goal.returns-then-at
+unfolding I.qubit_end
+returns-then-at c =
+    simp (assoc, cond-bind, done-bind)
+    (see _ _ _ _ c.at.ensures
+    (rw c.if-at.true
+    (then _ _ _ _ c.hardware_qubit-h.ensures
+    (then _ _ _ _ c.expect-t.ensures
+    (step _ _ _ _ c.complete-d.ensures
+    (ends _ _ _ c.complete-d.ensures.fit))))))
+
+pub returns : goal.returns
+unfolding I.qubit_end
+returns c =
+    simp (assoc, cond-bind, done-bind)
+    (see _ _ _ _ c.at.ensures
+    (rw c.if-at.false
+    (then _ _ _ _ c.var_name-p3.ensures
+    (then _ _ _ _ c.expect-t-2.ensures
+    (step _ _ _ _ c.complete-d-2.ensures
+    (ends _ _ _ c.complete-d-2.ensures.fit))))))

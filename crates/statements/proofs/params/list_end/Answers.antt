@@ -1,0 +1,25 @@
+-- Written by tools/proofs from the code, the definitions and hints.py: docs/PRODUCTIONS.md says how to change it.
+-- `params::list_end` meets its contract. Assumes nothing.
+use Rattle.runtime.proofs.Laws.{then, step, ends}
+use Rattle.grammar.proofs.Laws.{assoc, cond-bind, done-bind}
+use Rattle.grammar.specs.Params as P
+use Rattle.statements.proofs.params.list_end.Goals as goal
+
+pub returns-then-shape : goal.returns-then-shape
+unfolding P.list_end
+returns-then-shape c =
+    simp (assoc, cond-bind, done-bind)
+    (step _ _ _ _ c.list_empty-p1.ensures
+    (rw c.if-shape.true
+    (then _ _ _ _ c.expect-t.ensures
+    (step _ _ _ _ c.complete-d.ensures
+    (ends _ _ _ c.complete-d.ensures.fit)))))
+
+pub returns : goal.returns
+unfolding P.list_end
+returns c =
+    simp (assoc, cond-bind, done-bind)
+    (step _ _ _ _ c.list_empty-p1.ensures
+    (rw c.if-shape.false
+    (step _ _ _ _ c.complete-d-2.ensures
+    (ends _ _ _ c.complete-d-2.ensures.fit))))

@@ -1,0 +1,46 @@
+-- Written by tools/proofs from the code, the definitions and hints.py: docs/PRODUCTIONS.md says how to change it.
+-- `params::list_next` meets its contract. Assumes nothing.
+use Rattle.runtime.proofs.Laws.{then, step, peek, see, ends}
+use Rattle.grammar.proofs.Laws.{list-end}
+use Rattle.grammar.specs.Params as P
+use Rattle.statements.proofs.params.list_next.Goals as goal
+
+pub returns-then-at_list_end : goal.returns-then-at_list_end
+unfolding P.list_next
+returns-then-at_list_end c =
+    list-end _ _ _ _ c.at_list_end.ensures
+    (rw c.if-at_list_end.true
+    (ends _ _ _ c.requires))
+
+pub returns-then-at : goal.returns-then-at
+unfolding P.list_next
+returns-then-at c =
+    list-end _ _ _ _ c.at_list_end.ensures
+    (rw c.if-at_list_end.false
+    (see _ _ _ _ c.at.ensures
+    (rw c.if-at.true
+    (then _ _ _ _ c.bump-p1.ensures
+    (ends _ _ _ c.bump-p1.ensures.fit)))))
+
+pub returns-then-t : goal.returns-then-t
+unfolding P.list_next
+returns-then-t c =
+    list-end _ _ _ _ c.at_list_end.ensures
+    (rw c.if-at_list_end.false
+    (see _ _ _ _ c.at.ensures
+    (rw c.if-at.false
+    (peek _ _ _ _ _ c.at_ts-t.ensures
+    (rw c.if-t.true
+    (step _ _ _ _ c.error-p3.ensures
+    (ends _ _ _ c.error-p3.ensures.fit)))))))
+
+pub returns : goal.returns
+unfolding P.list_next
+returns c =
+    list-end _ _ _ _ c.at_list_end.ensures
+    (rw c.if-at_list_end.false
+    (see _ _ _ _ c.at.ensures
+    (rw c.if-at.false
+    (peek _ _ _ _ _ c.at_ts-t.ensures
+    (rw c.if-t.false
+    (ends _ _ _ c.at_ts-t.ensures.fit))))))

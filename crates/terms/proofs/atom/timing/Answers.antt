@@ -1,0 +1,19 @@
+-- Written by tools/proofs from the code, the definitions and hints.py: docs/PRODUCTIONS.md says how to change it.
+-- `atom::timing` meets its contract. Assumes nothing.
+use Rattle.runtime.proofs.Laws.{peek, any, ends}
+use Rattle.grammar.specs.Atom as A
+use Rattle.terms.proofs.atom.timing.Goals as goal
+
+pub returns-then-t : goal.returns-then-t
+unfolding A.timing
+returns-then-t c =
+    peek _ _ _ _ _ c.at_ts-t.ensures
+    (rw c.if-t.true
+    (ends _ _ _ c.at_ts-t.ensures.fit))
+
+pub returns : goal.returns
+unfolding A.timing
+returns c =
+    peek _ _ _ _ _ c.at_ts-t.ensures
+    (rw c.if-t.false
+    (any _ _ _ c.error.ensures))
