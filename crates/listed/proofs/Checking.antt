@@ -1,7 +1,7 @@
 -- The check in the words of specs/WellFormed and specs/Conditions: what it says, exactly when. Assumes nothing.
-use Prim.Native.Nat.{ℕ, ◌+◌, ◌/◌, ◌%◌, ◌≤◌, ◌<◌}
+use Prim.Native.Nat.{ℕ, ◌/◌, ◌%◌, ◌≤◌, ◌<◌}
 use native.Mathlib.Omega.{arith}
-use mathlib.Core.Path.{◌≡◌, refl, sym, ap, ◌∙◌}
+use mathlib.Core.Path.{◌≡◌, refl, sym, ap}
 use mathlib.Core.Bool.{Bool, true, false}
 use mathlib.Core.List.{List}
 use lib.Dec.{eqb, ltb}
@@ -11,7 +11,7 @@ use Rattle.event.specs.Event.{event_words, most_events, events_of}
 use Rattle.laws.proofs.Tests.{by-test}
 use Rattle.event.proofs.Rooms.{length-events}
 use Rattle.lists.specs.Answer.{Numbers, says}
-use Rattle.lists.specs.Check.{scan, checked}
+use Rattle.lists.specs.Check.{checked}
 use Rattle.listed.specs.WellFormed.{WellFormed}
 use Rattle.listed.specs.Conditions.{Faulty, Faulty.long, Faulty.odd, Faulty.fault, First, Checks, Checks.passes, Checks.fails}
 use Rattle.listed.proofs.Forming.{Scanned, Scanned.fine, Scanned.stuck, scanned, formed-faultless, fault-once}

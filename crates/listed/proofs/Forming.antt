@@ -12,7 +12,7 @@ use borrow.Author.Tests.{ne_eqb, eqb-true, eqb-false, ltb-true, ltb-false}
 use Rattle.event.specs.declared.Event.{Event}
 use Rattle.event.specs.declared.Event.TheVariants.{Start, Finish, Token, Error, NoEvent}
 use Rattle.event.specs.declared.Words.{Words}
-use Rattle.event.specs.Event.{event_words, encode, decode, events_of, Sound, none, is_start, distance}
+use Rattle.event.specs.Event.{event_words, encode, decode, events_of, Sound, is_start, distance}
 use Rattle.laws.proofs.Tests.{by-test, apart}
 use Rattle.event.proofs.Encoding.{decode-encode, encode-decode, decode-sound}
 use Rattle.event.proofs.Rooms.{length-events, event-index}

@@ -3,7 +3,7 @@
 use Prim.Native.Nat.{ℕ, zero, suc, ◌+◌, ◌<◌}
 use native.Mathlib.Omega.{arith}
 use native.Mathlib.Nat.{add-zero}
-use mathlib.Core.Path.{◌≡◌, refl, ◌∙◌}
+use mathlib.Core.Path.{◌≡◌, refl, sym, ◌∙◌, subst}
 use mathlib.Core.Bool.{Bool, true, false, cond}
 use mathlib.Core.List.{List, [], ◌∷◌, ◌++◌, append-nil, map-append}
 use lib.Dec.{eqb}
@@ -69,7 +69,7 @@ asked-at p [] j = refl
 asked-at p (e ∷ es) zero = rw (add-zero, eq-eqb p p refl)
 asked-at p (e ∷ es) (suc j) =
     let q : p + suc j ≡ suc p + j = omega arith in
-    rw (ne_eqb p (p + suc j) (λ z. omega arith), q) (asked-at (suc p) es j)
+    rw (ne_eqb p (p + suc j) (λ z. omega arith)) (subst (λ (k : ℕ). asked k (suc p) es ≡ own (get_or es j (NoEvent 0 0))) (sym q) (asked-at (suc p) es j))
 
 -- what a chain enters it takes out of the list
 asked-follow : (i p : ℕ) (es : List Event) (d : ℕ) → from i (entered (follow p es d).parents) ++ asked i p (follow p es d).left ≡ asked i p es

@@ -7,7 +7,7 @@ use mathlib.Core.Bool.{Bool, true, false, cond, true≢false}
 use mathlib.Core.List.{List, [], ◌∷◌}
 use lib.Dec.{T, eqb, leb, eqb→eq}
 use lib.ListN.{length, get_or, drop, get_or-eq_default}
-use borrow.Author.Tests.{eqb-true, eqb-false, ne_eqb, le-ltb, le-leb, lt-leb, leb-true, leb-false}
+use borrow.Author.Tests.{eqb-true, eqb-false, ne_eqb, le-leb, lt-leb, leb-true, leb-false}
 use Rattle.event.specs.declared.Event.{Event}
 use Rattle.event.specs.declared.Event.TheVariants.{Start, Finish, Token, Error, NoEvent}
 use Rattle.event.specs.Event.{decode, events_of, is_start, distance}

@@ -1,5 +1,7 @@
 // The check of event lists (docs/RULES.md, section 6), and what its answers say. The resolution, a crate above, makes it first: `measure` is
 // public for that alone.
+#![tactic(auto)]
+
 ghost use Rattle.std.specs.Prelude.{◌≡◌, false, suc, ◌/◌, ◌<◌, ◌≤◌, min, length, get_or, drop};
 ghost use Rattle.event.specs.Event.{event_words, events_of, none, is_start};
 ghost use Rattle.lists.specs.Answer.{numbers};
@@ -10,7 +12,7 @@ use event::{ERROR, EVENT_WORDS, Event, MOST_EVENTS, START, decode};
 use own::{cost, leads};
 
 // What a check or a resolution says; `numbers` in specs/Answer has the number and place of docs/RULES.md, section 3, for each.
-#[derive(Drop)]
+#[derive(Clone, Copy)]
 pub enum Answer {
     // done: the events, or the bytes
     Done(usize),
@@ -49,14 +51,14 @@ impl Answer {
 }
 
 // What an event comes to, with some nodes open before it: the nodes open past it and the bytes of what it asks for itself; or it is faulty.
-#[derive(Drop)]
+#[derive(Clone, Copy)]
 pub enum Past {
     On(usize, usize),
     Stuck,
 }
 
 // What a list comes to: the bytes of its steps, or what a check says.
-#[derive(Drop)]
+#[derive(Clone, Copy)]
 pub enum Measured {
     Passes(usize),
     Fails(Answer),

@@ -1,5 +1,7 @@
 // What an event asks for itself: where it leads, the bytes of its own step, and that step written, byte by byte or by one wide write. The
 // check adds these bytes up, the resolution writes the steps.
+#![tactic(auto)]
+
 ghost use Rattle.std.specs.Prelude.{◌≡◌, ◌+◌, ◌/◌, ◌%◌, ◌<◌, ◌≤◌, length, get_or};
 ghost use Rattle.event.specs.Event.{decode, distance};
 ghost use Rattle.records.specs.Record.{bytes, over, Wrote};

@@ -1,11 +1,13 @@
 // Steps, and their records in a step file: payload length, record kind, payload, little-endian (docs/RULES.md, section 7). The format's one
 // home: `events` writes records with `put`, and `stepfile` reads them.
+#![tactic(auto)]
+
 ghost use Rattle.std.specs.Prelude.{◌≡◌, ◌+◌, ◌≤◌, [], ◌∷◌, ◌++◌, length};
 ghost use Rattle.records.specs.Record.{le16, record_of, Wrote};
 
 // A tree step, one for each record kind. The numbers are a kind; a kind and the raw count; a code and its argument; the kinds expected and
 // found by the error with code 1.
-#[derive(Drop)]
+#[derive(Clone, Copy)]
 pub enum Step {
     Enter(u16),
     Leave,

@@ -22,7 +22,7 @@ use Rattle.stepfile.specs.Answer.{Numbers, says, refuses}
 use Rattle.stepfile.specs.Nesting.{nest}
 use Rattle.stepfile.specs.File.{ended, file_read}
 use Rattle.stepfile.specs.OneByOne.{Walked, walked_in, walked, judged}
-use Rattle.stepfile.specs.Good.{Bytes, enters, leaves, Good, Upto, Cut, Unsound, Breaks, Breaks.again, Breaks.below, Breaks.none, Breaks.inside, Verdict, Verdict.good, Verdict.cut, Verdict.unsound, Verdict.unnested}
+use Rattle.stepfile.specs.Good.{Bytes, enters, leaves, Good, Upto, Unsound, Breaks, Breaks.again, Breaks.below, Breaks.none, Breaks.inside, Verdict, Verdict.good, Verdict.cut, Verdict.unsound, Verdict.unnested}
 use Rattle.stepfile.proofs.Fronts.{a-token, an-expected, no_record}
 use Rattle.stepfile.proofs.Inverse.{behind-step, record-there}
 use Rattle.stepfile.proofs.Nestings.{ended-none, ended-closed, ended-open}

@@ -1,5 +1,7 @@
 // The reader of step files (docs/RULES.md, section 7): what stands at the front of a file, with the rest of it, and whether a whole file is
 // good. It writes nothing and takes files of any length.
+#![tactic(auto)]
+
 ghost use Rattle.std.specs.Prelude.{◌≡◌, ◌+◌, ◌^◌, ◌≤◌, ◌<◌, length, drop};
 ghost use Rattle.records.specs.Record.{record_of};
 ghost use Rattle.stepfile.specs.Front.{two, step_of, front, taken, behind};
@@ -11,7 +13,7 @@ ghost use Rattle.stepfile.specs.Inside.{Head, Fits, passed, Turned};
 use records::{ENTER, ERROR, EXPECTED, LEAVE, Step, TOKEN, size};
 
 // What stands at the front of a file.
-#[derive(Drop)]
+#[derive(Clone, Copy)]
 pub enum Found {
     // a sound record: its step
     Sound(Step),
@@ -38,7 +40,7 @@ impl Found {
 }
 
 // What a whole file is; `numbers` in specs/Answer has the number, place and records of docs/RULES.md, section 3, for each.
-#[derive(Drop)]
+#[derive(Clone, Copy)]
 pub enum Answer {
     // good: the bytes and the records
     Good(usize, usize),
@@ -89,14 +91,14 @@ impl Answer {
 }
 
 // The nodes open past a record, or a fault.
-#[derive(Drop)]
+#[derive(Clone, Copy)]
 pub enum Nodes {
     Open(usize),
     Fault,
 }
 
 // Where a walk over a file is: the place, the records before it, the nodes open there.
-#[derive(Drop)]
+#[derive(Clone, Copy)]
 pub struct Walk {
     pub at: usize,
     pub records: usize,
@@ -104,7 +106,7 @@ pub struct Walk {
 }
 
 // What a record makes of a walk: it goes on, or ends with an answer.
-#[derive(Drop)]
+#[derive(Clone, Copy)]
 pub enum Turn {
     On(Walk),
     Ends(Answer),
@@ -224,9 +226,8 @@ pub fn rest<'a>(file: &'a [u8]) -> &'a [u8]
     &file[n..]
 }
 
-// One step: what stands at the front of a file, and the rest of it. The borrow checker covers no function over a struct that holds a
-// slice, so this one is thin and proved by hand; the work is done by `front` and `rest`, which take a plain slice.
-#[derive(Drop)]
+// One step: what stands at the front of a file, and the rest of it.
+#[derive(Clone, Copy)]
 pub struct Taken<'a> {
     pub found: Found,
     pub rest: &'a [u8],

@@ -1,4 +1,6 @@
 // A turn of the loop in `process` of event.rs: the chain that an event's distance leads to, and the event's own step.
+#![tactic(auto)]
+
 ghost use Rattle.std.specs.Prelude.{◌≡◌, false, ◌∷◌, ◌++◌, suc, ◌+◌, ◌/◌, ◌<◌, ◌≤◌, length, get_or, take};
 ghost use Rattle.event.specs.Event.{event_words, events_of, none, distance, tombstone};
 ghost use Rattle.records.specs.Record.{over};
