@@ -1,15 +1,14 @@
 -- Which way a text goes, and what is said at its end. Assumes nothing.
-use mathlib.Core.Path.{◌≡◌, refl, sym, ap, ◌∙◌}
-use mathlib.Core.Bool.{Bool, true, false, cond}
-use Prim.Native.Nat.{ℕ, ◌+◌, ◌*◌, ◌/◌, ◌≤◌, ◌<◌}
+use mathlib.Core.Path.{◌≡◌, sym, ap, ◌∙◌}
+use mathlib.Core.Bool.{Bool, true, false}
+use Prim.Native.Nat.{ℕ, ◌≤◌, ◌<◌}
 use native.Mathlib.Omega.{arith}
-use lib.Dec.{ltb}
 use lib.ListN.{length}
 use borrow.Author.Tests.{lt-ltb, le-ltb}
 use Rattle.laws.proofs.Tests.{on, off}
 use Rattle.lexical.specs.Lexed.{lexed}
 use Rattle.lexical.specs.Rules.{rules}
-use Rattle.lex.specs.Lexing.{kinds_in, most_text, fit, fits, Lent, lent, Outcome, ends, says, refuses, writes, placed, lexing}
+use Rattle.lex.specs.Lexing.{kinds_in, most_text, fit, fits, Lent, Outcome, ends, says, refuses, writes, placed, lexing}
 use Rattle.lex.proofs.Laws.{fewer}
 use Rattle.lex.proofs.Writing.{tokens-few, kinds-few}
 

@@ -1,5 +1,5 @@
 -- All that the lexer says and leaves, from all that it is lent (docs/RULES.md, section 12). Assumes nothing: these are definitions.
-use Rattle.std.specs.Prelude.{Bool, true, false, not, cond, List, [], ◌∷◌, ◌++◌, ℕ, suc, ◌+◌, ◌*◌, ◌/◌, ◌%◌, ◌^◌, ltb, leb, length, get_or, drop, set}
+use Rattle.std.specs.Prelude.{Bool, false, not, cond, List, [], ◌∷◌, ◌++◌, ℕ, suc, ◌+◌, ◌*◌, ◌/◌, ◌%◌, ◌^◌, ltb, leb, length, get_or, drop, set}
 use Rattle.kinds.specs.Kinds.{WHITESPACE, COMMENT}
 use Rattle.kinds.specs.Membership.{both, one_of}
 use Rattle.lexical.specs.Lexed.{Token, nothing, token, lexed, words}

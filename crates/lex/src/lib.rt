@@ -1,4 +1,6 @@
 // The lexer: from the bytes of a text to kinds and joint bits, and a list of all tokens.
+#![tactic(auto)]
+
 mod table;
 
 ghost use Rattle.std.specs.Prelude.{◌≡◌, true, false, not, cond, ◌≤◌, ◌<◌, ◌+◌, ◌-◌, ◌*◌, ◌/◌, length, drop, set, get_or};
@@ -12,7 +14,7 @@ use crate::table::{BODY, CLASSES, ENTRIES, KIND_PART, KIND_WORD, LAST, LIVE, NEX
 use kinds::syntax_kind_enum as k;
 
 // What is said of a text: a number of docs/RULES.md and its place; and the kinds that are handed out.
-#[derive(Drop)]
+#[derive(Clone, Copy)]
 pub struct Answer {
     pub code: u32,
     pub place: usize,
@@ -20,14 +22,14 @@ pub struct Answer {
 }
 
 // A token's kind and its bytes.
-#[derive(Drop)]
+#[derive(Clone, Copy)]
 struct Token {
     kind: u16,
     len: usize,
 }
 
 // How many tokens a text has, and how many of them are no trivia.
-#[derive(Drop)]
+#[derive(Clone, Copy)]
 struct Counted {
     all: usize,
     some: usize,

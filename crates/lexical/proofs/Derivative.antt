@@ -6,7 +6,7 @@ use mathlib.Core.Logic.{◌⊎◌, inl, inr, ⊎_elim, ◌↔◌}
 use Prim.Native.Nat.{ℕ, zero, suc}
 use native.Mathlib.Omega.{arith}
 use lib.Dec.{T}
-use Rattle.lexical.specs.Regular.{pick, Set, has, Re, none, empty, one, seq, alt, star, Times, Matches, seq', or-none, alt', nullable, after}
+use Rattle.lexical.specs.Regular.{pick, has, Re, none, empty, one, seq, alt, star, Times, Matches, seq', or-none, alt', nullable, after}
 
 pub cons-nil : {b : ℕ} {w : List ℕ} → b ∷ w ≡ [] → ⊥
 cons-nil e = let z : ◌≡◌ {A = ℕ} 0 1 = cc in omega arith

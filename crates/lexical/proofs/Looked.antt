@@ -1,14 +1,13 @@
 -- What the code reads of the table, and where its rows stand. Assumes nothing.
-use mathlib.Core.Path.{◌≡◌, refl, sym, ap, ap₂, ◌∙◌}
+use mathlib.Core.Path.{◌≡◌, refl, ap, ap₂, ◌∙◌}
 use mathlib.Core.Bool.{Bool, true, false, cond}
-use mathlib.Core.List.{List, [], ◌∷◌, ◌++◌}
+use mathlib.Core.List.{List, [], ◌∷◌}
 use Prim.Native.Nat.{ℕ, zero, suc, ◌+◌, ◌*◌, ◌/◌, ◌%◌, ◌≤◌, ◌<◌}
 use native.Mathlib.Nat.{suc-mul, zero-add}
 use native.Mathlib.Omega.{arith}
-use lib.Dec.{T, leb, ltb, eqb, ltb→lt, eqb→eq}
-use lib.ListN.{length, get_or, get_or-append, get_or-eq_default}
+use lib.Dec.{T, ltb, eqb, ltb→lt, eqb→eq}
+use lib.ListN.{length, get_or, get_or-append}
 use lib.Seq.{get_or-append-add}
-use borrow.Author.Tests.{eqb-true, eqb-false}
 use Rattle.lexical.specs.Regular.{pick}
 use Rattle.lexical.specs.Lexed.{nothing, longest}
 use Rattle.lexical.specs.Table.{state-count, width, kind-class, live-row, last_row, class-list, next-rows, joined, next-list, part, entry, row_of, next, kind-of, State}

@@ -1,6 +1,6 @@
 -- The tokens of a text: the longest prefix that some rule takes, of the first such rule; then on behind it.
 -- Assumes nothing: these are definitions.
-use Rattle.std.specs.Prelude.{◌≡◌, Bool, true, false, List, [], ◌∷◌, ◌⊎◌, ℕ, zero, suc, ◌≤◌, ◌<◌, length, take, drop}
+use Rattle.std.specs.Prelude.{◌≡◌, List, [], ◌∷◌, ◌⊎◌, ℕ, zero, suc, ◌≤◌, ◌<◌, length, take, drop}
 use Rattle.lexical.specs.Regular.{pick, Re, none, empty, one, seq, alt, star, Matches, nullable, after}
 
 -- a rule: its kind, and what it takes

@@ -2,7 +2,7 @@
 use Rattle.std.specs.Prelude.{List, [], ◌∷◌, ℕ}
 use Prim.Native.Char.{Char, code}
 use Prim.Native.String as S
-use Rattle.lexical.specs.Regular.{Set, of, but, Re, none, empty, one, seq, alt, star}
+use Rattle.lexical.specs.Regular.{of, but, Re, empty, one, seq, alt, star}
 
 infixr 40 ◌▸◌
 infixr 30 ◌or◌

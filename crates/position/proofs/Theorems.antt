@@ -1,18 +1,17 @@
 -- What follows of the definitions. Assumes nothing.
 use Prim.Native.Nat.{ℕ, zero, suc, ◌+◌, ◌-◌, ◌≤◌, ◌<◌}
 use native.Mathlib.Omega.{arith}
-use native.Mathlib.Numerals.{add-one}
 use native.Mathlib.Nat.{zero-min, zero-add, suc-add}
 use mathlib.Core.Path.{◌≡◌, sym, ap, ◌∙◌}
 use mathlib.Core.Bool.{Bool, true, false}
 use mathlib.Core.List.{List}
-use mathlib.Core.Logic.{◌⊎◌, inl, inr}
+use mathlib.Core.Logic.{inl, inr}
 use lib.Dec.{eqb}
 use lib.ListN.{length}
 use borrow.Author.Tests.{eqb-true, eqb-false}
 use Rattle.laws.proofs.Tests.{by-test, apart}
 use Rattle.position.specs.Position.{ends, ended, began, count, kind_of, is_trivia, offset, passed, is_at, seek, token_of, At}
-use Rattle.position.specs.Inside.{cursor, begins, Stands}
+use Rattle.position.specs.Inside.{begins, Stands}
 
 -- the beginning is a cursor of every text and list
 pub begins-stands : (t ws : List ℕ) → Stands t ws begins

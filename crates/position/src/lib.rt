@@ -1,4 +1,6 @@
 // Where the tokens of a text stand in it: lines and columns (docs/RULES.md, section 10). It prints nothing.
+#![tactic(auto)]
+
 ghost use Rattle.std.specs.Prelude.{◌≡◌, ◌+◌, ◌*◌, ◌^◌, ◌≤◌, ◌<◌, min, length, get_or};
 ghost use Rattle.position.specs.Position.{ends, position, is_trivia, count, byte_of, token_of, position_of};
 ghost use Rattle.position.specs.Inside.{spot, cursor, begins, Stands, has_come};
@@ -6,14 +8,14 @@ ghost use Rattle.position.specs.Inside.{spot, cursor, begins, Stands, has_come};
 use kinds::syntax_kind_enum as k;
 
 // A line and a column, from 1.
-#[derive(Drop)]
+#[derive(Clone, Copy)]
 pub struct Position {
     pub line: u64,
     pub column: u64,
 }
 
 // A place in a text: the bytes before it, the lines that have ended there, and the first byte of its line.
-#[derive(Drop)]
+#[derive(Clone, Copy)]
 pub struct Spot {
     pub at: usize,
     pub lines: usize,
@@ -21,7 +23,7 @@ pub struct Spot {
 }
 
 // A place in a text and between the tokens of its list: the tokens before it, and those of them that are no trivia.
-#[derive(Drop)]
+#[derive(Clone, Copy)]
 pub struct Cursor {
     pub token: usize,
     pub place: usize,
