@@ -1,1 +1,2 @@
 // Proofs alone: what lexing and parsing together say and leave.
+#![tactic(auto)]

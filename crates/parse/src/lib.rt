@@ -1,4 +1,6 @@
 // The parse: three entries, refusals 1 to 8, and every word of the lent room determined.
+#![tactic(auto)]
+
 ghost use Rattle.std.specs.Prelude.{◌≡◌, ◌*◌, ◌≤◌, length};
 ghost use Rattle.event.specs.Event.{event_words};
 ghost use Rattle.input.specs.Input.{env};
@@ -15,7 +17,7 @@ use runtime::parser::Parser;
 const MOST_TOKENS: usize = 8192;
 
 // Where a parse begins.
-#[derive(Drop)]
+#[derive(Clone, Copy)]
 pub enum Entry {
     SourceFile,
     Item,
@@ -23,7 +25,7 @@ pub enum Entry {
 }
 
 // What a parse says: the number of docs/RULES.md section 3, its place, and how many events and lookups a done run has made.
-#[derive(Drop)]
+#[derive(Clone, Copy)]
 pub struct Answer {
     pub code: u32,
     pub place: u32,

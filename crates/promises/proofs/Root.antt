@@ -2,7 +2,7 @@
 use mathlib.Core.Path.{◌≡◌, refl, sym, ap, ◌∙◌, subst}
 use mathlib.Core.Bool.{Bool, true, false, cond}
 use mathlib.Core.List.{List, [], ◌∷◌, ◌++◌}
-use Prim.Native.Nat.{ℕ, ◌+◌, ◌<◌, min}
+use Prim.Native.Nat.{ℕ, ◌<◌, min}
 use native.Mathlib.Omega.{arith}
 use lib.Dec.{eqb, ltb}
 use lib.ListN.{length, set}
@@ -17,7 +17,7 @@ use Rattle.laws.proofs.Tests.{by-test, apart}
 use Rattle.input.specs.Input.{Env}
 use Rattle.runtime.specs.State.{St, view, new, live, added, rewritten, refuse, event_at, push_event, named, Fit}
 use Rattle.runtime.specs.Cover.{events}
-use Rattle.runtime.specs.Acts.{Act.starts, Acts, step, run, ◌>>=◌, ◌>>◌, complete}
+use Rattle.runtime.specs.Acts.{Act.starts, Acts, step, run, ◌>>=◌, complete}
 use Rattle.runtime.proofs.Kept.{kept_step}
 use Rattle.runtime.proofs.Laws.{run_bind}
 use Rattle.runtime.proofs.Runs.{fits, Held, helds, held-run, refused-run}

@@ -1,1 +1,2 @@
 // Proofs alone: what is promised of a done parse.
+#![tactic(auto)]
