@@ -1,6 +1,8 @@
-// The public calls for C and Rust. A slice passes as a pointer and a length. A call returns the number of docs/RULES.md and writes its
+// The public calls: `oq3_c` exports them for C and Rust. A call returns the number of docs/RULES.md and writes its
 // place to the first word of a lent answer room, a parse its events and lookups to the next two, a lexing its kinds to the second. Where that
 // room is too short it returns 100, and reads and writes nothing.
+#![tactic(auto)]
+
 ghost use Rattle.std.specs.Prelude.{◌≡◌, [], ◌≤◌, length};
 ghost use Rattle.parse.specs.Parse.{lent, parsed};
 ghost use Rattle.oq3.specs.Calls.{checks, resolves, returns, three, told_parse, parses, lex_returns, lexes};
@@ -36,8 +38,7 @@ fn parse_from(
 
 // Entry 0 is the source file, 1 an item, 2 an expression. Another one returns 101, with 0 for each word of the answer, before any test
 // of docs/RULES.md.
-#[unsafe(no_mangle)]
-pub extern "C" fn oq3_parse(
+pub fn oq3_parse(
     entry: u32,
     mode: u32,
     kinds: &[u16],
@@ -68,8 +69,7 @@ pub extern "C" fn oq3_parse(
     tell(answer, a)
 }
 
-#[unsafe(no_mangle)]
-pub extern "C" fn oq3_check(words: &[u32], answer: &mut [u64]) -> u32
+pub fn oq3_check(words: &[u32], answer: &mut [u64]) -> u32
     ensures { checks words.now answer.old ≡ returns result words.now [] answer.new }
 {
     if answer.len() == 0 {
@@ -80,8 +80,7 @@ pub extern "C" fn oq3_check(words: &[u32], answer: &mut [u64]) -> u32
     a.code()
 }
 
-#[unsafe(no_mangle)]
-pub extern "C" fn oq3_resolve(words: &mut [u32], steps: &mut [u8], answer: &mut [u64]) -> u32
+pub fn oq3_resolve(words: &mut [u32], steps: &mut [u8], answer: &mut [u64]) -> u32
     ensures { resolves words.old steps.old answer.old ≡ returns result words.new steps.new answer.new }
 {
     if answer.len() == 0 {
@@ -92,8 +91,7 @@ pub extern "C" fn oq3_resolve(words: &mut [u32], steps: &mut [u8], answer: &mut 
     a.code()
 }
 
-#[unsafe(no_mangle)]
-pub extern "C" fn oq3_lex(
+pub fn oq3_lex(
     text: &[u8],
     kinds: &mut [u16],
     joints: &mut [u64],

@@ -1,5 +1,7 @@
-// The reader's calls for C. A slice passes as a pointer and a length. A call returns the number of docs/RULES.md and writes its words to the
-// front of a lent answer room. Where that room is too short it returns 100, and reads and writes nothing.
+// The reader's calls, as `oq3_read_c` exports them for C. A call returns the number of docs/RULES.md and writes its words to the front of a
+// lent answer room. Where that room is too short it returns 100, and reads and writes nothing.
+#![tactic(auto)]
+
 ghost use Rattle.std.specs.Prelude.{◌≡◌, [], ◌∷◌, ◌++◌, ◌≤◌, length, drop};
 ghost use Rattle.oq3_read.specs.Calls.{returns, reads_file, fields_of, fields, reads_step};
 
@@ -7,7 +9,7 @@ use records::Step;
 use stepfile::Found;
 
 // The record kind of what stands at the front of a file, and its payload's numbers; 0 for what is not there.
-#[derive(Drop)]
+#[derive(Clone, Copy)]
 struct Fields {
     kind: u64,
     first: u64,
@@ -83,8 +85,7 @@ fn tell(answer: &mut [u64], rest: usize, r: Fields)
 }
 
 // One step: where the rest begins, the record kind, 0 at the end, and the payload's numbers.
-#[unsafe(no_mangle)]
-pub extern "C" fn oq3_read_step(file: &[u8], answer: &mut [u64]) -> u32
+pub fn oq3_read_step(file: &[u8], answer: &mut [u64]) -> u32
     ensures { reads_step file.now answer.old ≡ returns result answer.new }
 {
     if answer.len() < 6 {
@@ -96,8 +97,7 @@ pub extern "C" fn oq3_read_step(file: &[u8], answer: &mut [u64]) -> u32
 }
 
 // The whole file: its place and its records.
-#[unsafe(no_mangle)]
-pub extern "C" fn oq3_read_file(file: &[u8], answer: &mut [u64]) -> u32
+pub fn oq3_read_file(file: &[u8], answer: &mut [u64]) -> u32
     ensures { reads_file file.now answer.old ≡ returns result answer.new }
 {
     if answer.len() < 2 {
