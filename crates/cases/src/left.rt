@@ -1,5 +1,7 @@
-// How a call left what it was lent, on standard output.
+// How a call left what it was lent, to a writer.
 use crate::show::{put_bytes, put_words};
+use std::io;
+use std::io::Write;
 use text::table::put_entry;
 
 // A word of a parse's room, and a byte of the step room, before the call.
@@ -72,8 +74,8 @@ const BARE: u64 = 3;
 
 const OTHER: u64 = 4;
 
-fn put_state(s: u64) {
-    put_entry(b" list\n zero\n same\n bare\n other\n", s);
+fn put_state<W: Write>(out: &mut W, s: u64) -> io::Result<()> {
+    put_entry(out, b" list\n zero\n same\n bare\n other\n", s)
 }
 
 // The first state that holds of two, the one that a call must leave first.
@@ -106,15 +108,14 @@ fn filled(code: u32, n: usize) -> usize {
 }
 
 // Writes how a parse left its room, whose first words are the events where it is done.
-pub fn put_parsed(code: u32, words: usize, room: &[u32]) {
+pub fn put_parsed<W: Write>(out: &mut W, code: u32, words: usize, room: &[u32]) -> io::Result<()> {
     let n = filled(code, words);
     if n > room.len() {
-        io::write_all(1, b" other -");
-        return;
+        return out.write_all(b" other -");
     }
-    put_state(rest_state(code, &room[n..]));
-    io::write_all(1, b" ");
-    put_words(&room[0..n]);
+    put_state(out, rest_state(code, &room[n..]))?;
+    out.write_all(b" ")?;
+    put_words(out, &room[0..n])
 }
 
 // How a resolution left the list, which was `kept`, and the bytes behind the file.
@@ -131,13 +132,19 @@ fn list_state(code: u32, words: &[u32], kept: &[u32], rest: &[u8]) -> u64 {
 }
 
 // Writes how a resolution left its room, whose first bytes are the file where it is done, and the list.
-pub fn put_resolved(code: u32, bytes: usize, room: &[u8], words: &[u32], kept: &[u32]) {
+pub fn put_resolved<W: Write>(
+    out: &mut W,
+    code: u32,
+    bytes: usize,
+    room: &[u8],
+    words: &[u32],
+    kept: &[u32],
+) -> io::Result<()> {
     let n = filled(code, bytes);
     if n > room.len() {
-        io::write_all(1, b" - other");
-        return;
+        return out.write_all(b" - other");
     }
-    io::write_all(1, b" ");
-    put_bytes(&room[0..n]);
-    put_state(list_state(code, words, kept, &room[n..]));
+    out.write_all(b" ")?;
+    put_bytes(out, &room[0..n])?;
+    put_state(out, list_state(code, words, kept, &room[n..]))
 }

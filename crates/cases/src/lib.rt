@@ -1,4 +1,6 @@
 // Cases as lines (docs/RULES.md, section 11): what a line asks for, and what its answer is made of.
+#![tactic(auto)]
+
 pub mod left;
 pub mod numbers;
 pub mod show;
@@ -6,6 +8,8 @@ pub mod show;
 ghost use Rattle.std.specs.Prelude.{◌≤◌, length};
 
 use numbers::{Numbers, kinds_at, numbers_at, words_at};
+use std::io;
+use std::io::Write;
 use text::number::{Number, field};
 use text::put;
 use text::table::{Found, find};
@@ -27,24 +31,31 @@ pub fn head(line: &[u8]) -> Found
 }
 
 // What a line that is no case is answered.
-pub fn put_bad() {
-    io::write_all(1, b"bad line");
+pub fn put_bad<W: Write>(out: &mut W) -> io::Result<()> {
+    out.write_all(b"bad line")
 }
 
 // The number and the place of an answer, and of a parse also its events and lookups.
-pub fn put_place(code: u32, place: usize) {
-    put(b"% %", &[code as u64, place as u64]);
+pub fn put_place<W: Write>(out: &mut W, code: u32, place: usize) -> io::Result<()> {
+    put(out, b"% %", &[code as u64, place as u64])
 }
 
-pub fn put_counts(code: u32, place: u32, events: u32, lookups: u32) {
+pub fn put_counts<W: Write>(
+    out: &mut W,
+    code: u32,
+    place: u32,
+    events: u32,
+    lookups: u32,
+) -> io::Result<()> {
     put(
+        out,
         b"% % % %",
         &[code as u64, place as u64, events as u64, lookups as u64],
-    );
+    )
 }
 
 // What a parse is lent: the mode, the words of the room, and how many kinds and joint words were read.
-#[derive(Drop)]
+#[derive(Clone, Copy)]
 pub struct Parse {
     pub mode: u32,
     pub room: usize,
@@ -54,7 +65,7 @@ pub struct Parse {
 }
 
 // What a resolution is lent: the bytes of the room, where the list stands in the line, and how many words were read.
-#[derive(Drop)]
+#[derive(Clone, Copy)]
 pub struct Resolve {
     pub room: usize,
     pub list: usize,

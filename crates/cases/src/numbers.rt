@@ -4,7 +4,7 @@ ghost use Rattle.std.specs.Prelude.{◌≡◌, ◌≤◌, length};
 use text::number::{MOST64, number_at};
 
 // Numbers that were read: how many, the place past them, and whether all of them fit.
-#[derive(Drop)]
+#[derive(Clone, Copy)]
 pub struct Numbers {
     pub count: usize,
     pub next: usize,

@@ -6,14 +6,14 @@ use text::table::find;
 use text::{line_end, past};
 
 // The words of an event.
-#[derive(Drop)]
+#[derive(Clone, Copy)]
 struct Words {
     first: u32,
     second: u32,
 }
 
 // A list that was read: its words, the place past it, and whether another list follows.
-#[derive(Drop)]
+#[derive(Clone, Copy)]
 pub struct List {
     pub count: usize,
     pub next: usize,

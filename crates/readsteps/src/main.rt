@@ -1,21 +1,29 @@
 // Shows the step file on standard input (docs/RULES.md, section 9).
+#![tactic(auto)]
 
-fn show_input(file: &mut [u8]) {
-    let n = io::read_full(0, file);
+use std::io;
+use std::io::{Read, Write};
+use text::stream::read_full;
+
+fn show_input<R: Read, W: Write>(input: &mut R, out: &mut W, file: &mut [u8]) -> io::Result<()> {
+    let n = read_full(input, file)?;
     // one that fills the room may be longer
     if n == file.len() {
-        io::write_all(1, b"bad input: more than 1048575 bytes\n");
-        return;
+        return out.write_all(b"bad input: more than 1048575 bytes\n");
     }
-    steptext::show_file(&file[..n]);
+    steptext::show_file(out, &file[..n])
 }
 
 // The room goes in as an array: its length is then known by its type, and not counted.
-fn show_in(file: &mut [u8; 1048576]) {
-    show_input(file);
+fn show_in<R: Read, W: Write>(
+    input: &mut R,
+    out: &mut W,
+    file: &mut [u8; 1048576],
+) -> io::Result<()> {
+    show_input(input, out, file)
 }
 
-fn main() {
+fn main(rt: HostRuntime) -> io::Result<()> {
     let mut file = [0; 1048576];
-    show_in(&mut file);
+    show_in(&mut rt.reader(), &mut io::writer(&rt), &mut file)
 }

@@ -1,25 +1,32 @@
 // Counts the kinds of each fixed set twice, as the ones of its words and by asking its listing, and says whether both agree
 // (docs/RULES.md, section 13). That they do is proved: no line can say DIFFERENT.
+#![tactic(auto)]
+
 mod named;
 mod show;
 
-ghost use Rattle.std.specs.Prelude.{true, ◌≡◌};
+ghost use Rattle.std.specs.Prelude.{true, ◌≡◌, IfOk};
+
+use std::io;
+use std::io::Write;
 
 // A line for each set. Whether every set's words and listing agree.
-fn show_all() -> bool
-    ensures { result ≡ true }
+fn show_all<W: Write>(out: &mut W) -> io::Result<bool>
+    ensures { IfOk result (λ r. r ≡ true) }
 {
     let mut agree = true;
     let mut n = 0;
     while n < named::SETS {
-        agree = agree & show::show(n, named::nth(n));
+        agree = agree & show::show(out, n, named::nth(n))?;
         n += 1;
     }
-    agree
+    Ok(agree)
 }
 
-fn main() {
-    if show_all() {
-        text::put(b"% sets agree\n", &[named::SETS]);
+fn main(rt: HostRuntime) -> io::Result<()> {
+    let mut out = io::writer(&rt);
+    if show_all(&mut out)? {
+        text::put(&mut out, b"% sets agree\n", &[named::SETS])?;
     }
+    Ok(())
 }

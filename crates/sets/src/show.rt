@@ -1,14 +1,16 @@
 // A set's line: its name, the ones of its words, and the kinds that its listing has.
-ghost use Rattle.std.specs.Prelude.{length, true, cond, ◌≡◌};
+ghost use Rattle.std.specs.Prelude.{length, true, cond, ◌≡◌, IfOk, OnErr};
 ghost use Rattle.kinds.specs.Membership.{once};
 ghost use Rattle.kinds.specs.Sets.{kinds_of};
 
 use crate::named::names;
 use kinds::sets::{Fixed, set_of};
+use std::io;
+use std::io::Write;
 use text::table::put_entry;
 
 // What is found by asking every number from 0 to 65,535.
-#[derive(Drop)]
+#[derive(Clone, Copy)]
 pub struct Asked {
     // How many of them the listing has.
     pub listed: u64,
@@ -41,30 +43,31 @@ fn ask(set: Fixed) -> Asked
 }
 
 // The counts of a set's line, behind its name.
-fn put_counts(n: u64, ones: u64, listed: u64) {
+fn put_counts<W: Write>(out: &mut W, n: u64, ones: u64, listed: u64) -> io::Result<()> {
     let table = names();
-    put_entry(&table, n);
-    text::put(b" % %", &[ones, listed]);
+    put_entry(out, &table, n)?;
+    text::put(out, b" % %", &[ones, listed])
 }
 
-// A line's end.
-fn put_end(agree: bool) -> bool
-    ensures { result ≡ agree }
+// A line's end. One that says DIFFERENT is told even where it cannot be written.
+fn put_end<W: Write>(out: &mut W, agree: bool) -> io::Result<bool>
+    ensures told { IfOk result (λ r. r ≡ agree) }
+    ensures failed { OnErr result (agree ≡ true) }
 {
     if agree {
-        io::write_all(1, b"\n");
-        return true;
+        out.write_all(b"\n")?;
+        return Ok(true);
     }
-    io::write_all(1, b" DIFFERENT\n");
-    false
+    let _ = out.write_all(b" DIFFERENT\n");
+    Ok(false)
 }
 
 // Writes the line of a set that has a number. Whether its words and its listing agree.
-pub fn show(n: u64, set: Fixed) -> bool
-    ensures { result ≡ true }
+pub fn show<W: Write>(out: &mut W, n: u64, set: Fixed) -> io::Result<bool>
+    ensures { IfOk result (λ r. r ≡ true) }
 {
     let ones = set.count() as u64;
     let asked = ask(set);
-    put_counts(n, ones, asked.listed);
-    put_end(asked.same & (ones == asked.listed))
+    put_counts(out, n, ones, asked.listed)?;
+    put_end(out, asked.same & (ones == asked.listed))
 }

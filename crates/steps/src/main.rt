@@ -1,9 +1,14 @@
 // Parses OpenQASM text or tokens that stand as text on standard input, and writes the tree (docs/RULES.md, section 10).
+#![tactic(auto)]
+
 ghost use Rattle.std.specs.Prelude.{◌≡◌, ◌≤◌, length};
 
 use event::EVENT_WORDS;
 use lex::lex;
 use parse::Entry;
+use std::io;
+use std::io::{Read, Write};
+use text::stream::read_full;
 use tokens::read::{Asked, has_source, read};
 use tree::{put_done, put_refused, put_tree};
 
@@ -47,7 +52,8 @@ fn text_joints_room() -> [u64; 1024]
 
 // Resolves the events of a done parse, and writes the tree and the last line. The tokens are those of a text with its list where they have
 // lines.
-fn put_steps(
+fn put_steps<W: Write>(
+    out: &mut W,
     words: &mut [u32],
     steps: &mut [u8],
     a: parse::Answer,
@@ -55,42 +61,52 @@ fn put_steps(
     text: &[u8],
     list: &[u32],
     lined: bool,
-)
+) -> io::Result<()>
     requires steps_len_bound { length steps.old ≤ 1048576 }
     requires text_len_bound { length text.now ≤ 1048576 }
 {
     let r = events::resolve(words, steps);
     let k = r.place();
     if r.code() != 0 {
-        put_refused(r.code(), k as u64, kinds, text, list, lined);
-        return;
+        return put_refused(out, r.code(), k as u64, kinds, text, list, lined);
     }
     if k <= steps.len() {
-        let errors = put_tree(kinds, &steps[0..k], text, list, lined);
-        put_done(a.place, kinds.len(), a.events, a.lookups, errors);
+        let errors = put_tree(out, kinds, &steps[0..k], text, list, lined)?;
+        put_done(out, a.place, kinds.len(), a.events, a.lookups, errors)?;
     }
+    Ok(())
 }
 
 // What an answer comes to as text.
-fn put_answer(
+fn put_answer<W: Write>(
+    out: &mut W,
     room: &mut [u32],
     a: parse::Answer,
     kinds: &[u16],
     text: &[u8],
     list: &[u32],
     lined: bool,
-)
+) -> io::Result<()>
     requires { length text.now ≤ 1048576 }
 {
     if a.code != 0 {
-        put_refused(a.code, a.place as u64, kinds, text, list, lined);
-        return;
+        return put_refused(out, a.code, a.place as u64, kinds, text, list, lined);
     }
     let k = EVENT_WORDS * a.events as usize;
     if k <= room.len() {
         let mut steps = steps_room();
-        put_steps(&mut room[0..k], &mut steps, a, kinds, text, list, lined);
+        put_steps(
+            out,
+            &mut room[0..k],
+            &mut steps,
+            a,
+            kinds,
+            text,
+            list,
+            lined,
+        )?;
     }
+    Ok(())
 }
 
 // The entry of a parse.
@@ -103,90 +119,109 @@ fn entry_of(e: tokens::read::Entry) -> Entry {
 }
 
 // Parses what is asked for, and writes what comes of it.
-fn run(a: Asked, kinds: &[u16], joints: &[u64], text: &[u8], list: &[u32], lined: bool)
+fn run<W: Write>(
+    out: &mut W,
+    a: Asked,
+    kinds: &[u16],
+    joints: &[u64],
+    text: &[u8],
+    list: &[u32],
+    lined: bool,
+) -> io::Result<()>
     requires { length text.now ≤ 1048576 }
 {
     let e = a.entry;
     let mut room = words_room();
     let r = parse::parse(entry_of(e), a.mode, kinds, joints, &mut room);
-    put_answer(&mut room, r, kinds, text, list, lined);
+    put_answer(out, &mut room, r, kinds, text, list, lined)
 }
 
 // Tokens, by their numbers.
-fn run_tokens(a: Asked, kinds: &[u16], joints: &[u64]) {
+fn run_tokens<W: Write>(out: &mut W, a: Asked, kinds: &[u16], joints: &[u64]) -> io::Result<()> {
     let n = a.count;
     if n <= kinds.len() {
-        run(a, &kinds[0..n], joints, b"", &[], false);
+        run(out, a, &kinds[0..n], joints, b"", &[], false)?;
     }
+    Ok(())
 }
 
 // The tokens of a text, by their lines and columns.
-fn run_lexed(a: Asked, l: lex::Answer, text: &[u8], kinds: &[u16], joints: &[u64], list: &[u32])
+fn run_lexed<W: Write>(
+    out: &mut W,
+    a: Asked,
+    l: lex::Answer,
+    text: &[u8],
+    kinds: &[u16],
+    joints: &[u64],
+    list: &[u32],
+) -> io::Result<()>
     requires { length text.now ≤ 1048576 }
 {
     if l.code != 0 {
-        put_refused(l.code, l.place as u64, kinds, text, list, true);
-        return;
+        return put_refused(out, l.code, l.place as u64, kinds, text, list, true);
     }
     let n = l.kinds;
     let all = l.place;
     if n <= kinds.len() {
         if all <= list.len() / 2 {
-            run(a, &kinds[0..n], joints, text, &list[0..2 * all], true);
+            run(out, a, &kinds[0..n], joints, text, &list[0..2 * all], true)?;
         }
     }
+    Ok(())
 }
 
-fn run_source(a: Asked, text: &[u8])
+fn run_source<W: Write>(out: &mut W, a: Asked, text: &[u8]) -> io::Result<()>
     requires { length text.now ≤ 1048576 }
 {
     let mut kinds = text_kinds_room();
     let mut joints = text_joints_room();
     let mut list = words_room();
     let l = lex(text, &mut kinds, &mut joints, &mut list);
-    run_lexed(a, l, text, &kinds, &joints, &list);
+    run_lexed(out, a, l, text, &kinds, &joints, &list)
 }
 
-fn run_text(text: &[u8])
+fn run_text<W: Write>(out: &mut W, text: &[u8]) -> io::Result<()>
     requires { length text.now ≤ 1048576 }
 {
     let mut kinds = kinds_room();
     let mut joints = joints_room();
-    let a = read(text, &mut kinds, &mut joints);
+    let a = read(out, text, &mut kinds, &mut joints)?;
     if a.bad {
-        io::write_all(1, b"bad input\n");
-        return;
+        return out.write_all(b"bad input\n");
     }
     let from = a.source;
     if from == 0 {
-        run_tokens(a, &kinds, &joints);
-        return;
+        return run_tokens(out, a, &kinds, &joints);
     }
     if from <= text.len() {
-        run_source(a, &text[from..]);
+        run_source(out, a, &text[from..])?;
     }
+    Ok(())
 }
 
 // Reads standard input into the room. One that fills it may be longer: too long for tokens, and for OpenQASM text in any case.
-fn run_input(text: &mut [u8])
+fn run_input<R: Read, W: Write>(input: &mut R, out: &mut W, text: &mut [u8]) -> io::Result<()>
     requires { length text.old ≤ 1048576 }
 {
-    let n = io::read_full(0, text);
+    let n = read_full(input, text)?;
     if n == text.len() {
         if !has_source(text) {
-            io::write_all(1, b"bad input: more than 1048575 bytes\n");
-            return;
+            return out.write_all(b"bad input: more than 1048575 bytes\n");
         }
     }
-    run_text(&text[..n]);
+    run_text(out, &text[..n])
 }
 
 // The room goes in as an array: its length is then known by its type, and not counted.
-fn run_in(text: &mut [u8; 1048576]) {
-    run_input(text);
+fn run_in<R: Read, W: Write>(
+    input: &mut R,
+    out: &mut W,
+    text: &mut [u8; 1048576],
+) -> io::Result<()> {
+    run_input(input, out, text)
 }
 
-fn main() {
+fn main(rt: HostRuntime) -> io::Result<()> {
     let mut text = [0; 1048576];
-    run_in(&mut text);
+    run_in(&mut rt.reader(), &mut io::writer(&rt), &mut text)
 }

@@ -1,9 +1,14 @@
-// Text: numbers on standard output, the lines of a text, the numbers in a line, and tables of texts.
+// Text: numbers to a writer, the lines of a text, the numbers in a line, and tables of texts.
+#![tactic(auto)]
+
 pub mod number;
 pub mod stream;
 pub mod table;
 
 ghost use Rattle.std.specs.Prelude.{◌≡◌, ◌+◌, ◌≤◌, min, length};
+
+use std::io;
+use std::io::Write;
 
 // The first place from the given one on where a byte stands, the end where there is none.
 fn byte_from(text: &[u8], at: usize, b: u8) -> usize
@@ -36,22 +41,29 @@ pub fn past(text: &[u8], end: usize) -> usize
     if end < text.len() { end + 1 } else { end }
 }
 
+// Writes a number in decimal.
+pub fn put_decimal<W: Write>(out: &mut W, n: u64) -> io::Result<()> {
+    write!(out, "{n}")
+}
+
 // Writes the number at a place, where there is one.
-fn put_nth(numbers: &[u64], n: usize) {
+fn put_nth<W: Write>(out: &mut W, numbers: &[u64], n: usize) -> io::Result<()> {
     if n < numbers.len() {
-        io::print_decimal(1, numbers[n]);
+        put_decimal(out, numbers[n])?;
     }
+    Ok(())
 }
 
 // Writes a text with a number in the place of each `%`.
-pub fn put(form: &[u8], numbers: &[u64]) {
+pub fn put<W: Write>(out: &mut W, form: &[u8], numbers: &[u64]) -> io::Result<()> {
     let mut at = 0;
     let mut n = 0;
     while at < form.len() {
         let end = byte_from(form, at, b'%');
-        io::write_all(1, &form[at..end]);
-        put_nth(numbers, n);
+        out.write_all(&form[at..end])?;
+        put_nth(out, numbers, n)?;
         n += 1;
         at = past(form, end);
     }
+    Ok(())
 }

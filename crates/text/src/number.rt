@@ -9,7 +9,7 @@ pub const MOST32: u64 = 4294967295;
 pub const MOST64: u64 = 18446744073709551615;
 
 // A number that was read: whether there was one that is not too great, and the place past it.
-#[derive(Drop)]
+#[derive(Clone, Copy)]
 pub struct Number {
     pub value: u64,
     pub next: usize,

@@ -1,5 +1,23 @@
-// The lines of standard input in a room, which holds the longest one.
-ghost use Rattle.std.specs.Prelude.{◌≤◌, ◌<◌, length};
+// Standard input in a room: the whole of it, or its lines, of which the room holds the longest one.
+ghost use Rattle.std.specs.Prelude.{◌≤◌, ◌<◌, length, IfOk};
+
+use std::io;
+use std::io::Read;
+
+// Reads until the room is full or the input ends, and answers how many bytes were read.
+pub fn read_full<R: Read>(input: &mut R, room: &mut [u8]) -> io::Result<usize>
+    ensures { IfOk result (λ n. n ≤ length room.new) }
+{
+    let mut done = 0;
+    while done < room.len() {
+        let n = input.read(&mut room[done..])?;
+        if n == 0 {
+            break;
+        }
+        done += n;
+    }
+    Ok(done)
+}
 
 // Moves the bytes of a range to the front.
 fn move_front(text: &mut [u8], from: usize, to: usize)
@@ -30,11 +48,11 @@ pub fn keep(text: &mut [u8], from: usize, to: usize) -> usize
 }
 
 // Reads behind the first bytes, and answers how many there are then.
-pub fn read_behind(text: &mut [u8], held: usize) -> usize
+pub fn read_behind<R: Read>(input: &mut R, text: &mut [u8], held: usize) -> io::Result<usize>
     requires { held ≤ length text.old }
-    ensures lower_bound { held ≤ result }
-    ensures upper_bound { result ≤ length text.old }
+    ensures lower_bound { IfOk result (λ to. held ≤ to) }
+    ensures upper_bound { IfOk result (λ to. to ≤ length text.old) }
 {
-    let got = libc::read(0, &mut text[held..]);
-    held + io::count(got, &text[held..])
+    let got = input.read(&mut text[held..])?;
+    Ok(held + got)
 }

@@ -1,10 +1,12 @@
 // Tables of texts: an entry is ended by a line feed, and the first is that of 0.
 ghost use Rattle.std.specs.Prelude.{◌≤◌, length};
 
-use crate::{line_end, past};
+use crate::{line_end, past, put_decimal};
+use std::io;
+use std::io::Write;
 
 // An entry that was found, and the place past it in the text; where none was, the number of entries, and 0.
-#[derive(Drop)]
+#[derive(Clone, Copy)]
 pub struct Found {
     pub number: u64,
     pub next: usize,
@@ -24,14 +26,13 @@ fn entry_at(table: &[u8], n: u64) -> usize
 }
 
 // Writes the text of a number, or the number itself where the table has none.
-pub fn put_entry(table: &[u8], n: u64) {
+pub fn put_entry<W: Write>(out: &mut W, table: &[u8], n: u64) -> io::Result<()> {
     let from = entry_at(table, n);
     if from == table.len() {
-        io::print_decimal(1, n);
-        return;
+        return put_decimal(out, n);
     }
     let to = line_end(table, from);
-    io::write_all(1, &table[from..to]);
+    out.write_all(&table[from..to])
 }
 
 // The place past some words that a text begins with, 0 where it does not.

@@ -2,12 +2,14 @@
 ghost use Rattle.std.specs.Prelude.{◌+◌, ◌≤◌, ◌<◌, length};
 
 use crate::table::kind_named;
+use std::io;
+use std::io::Write;
 use text::number::{MOST16, digits};
 use text::table::{find, put_entry};
 use text::{line_end, past, put};
 
 // The entries.
-#[derive(Drop)]
+#[derive(Clone, Copy)]
 pub enum Entry {
     Source,
     Item,
@@ -16,7 +18,7 @@ pub enum Entry {
 
 // What a text asks for: the entry, the mode, and how many tokens are held; the place at which OpenQASM text begins, 0 for none; whether a
 // word of it is neither a token nor a directive.
-#[derive(Drop)]
+#[derive(Clone, Copy)]
 pub struct Asked {
     pub entry: Entry,
     pub mode: u32,
@@ -133,11 +135,17 @@ fn after_byte(b: u8, n: u64) -> u64
 }
 
 // Says that a word has no meaning where it stands: it is no kind (0), or no directive (1).
-fn say_bad(text: &[u8], from: usize, word: &[u8], what: u64) {
-    put(b"line %", &[line_of(text, from)]);
-    put_entry(b": no kind: \n: no directive here: \n", what);
-    io::write_all(1, word);
-    io::write_all(1, b"\n");
+fn say_bad<W: Write>(
+    out: &mut W,
+    text: &[u8],
+    from: usize,
+    word: &[u8],
+    what: u64,
+) -> io::Result<()> {
+    put(out, b"line %", &[line_of(text, from)])?;
+    put_entry(out, b": no kind: \n: no directive here: \n", what)?;
+    out.write_all(word)?;
+    out.write_all(b"\n")
 }
 
 // The kind that a word names, above 65,535 for none.
@@ -174,7 +182,7 @@ fn set_joint(joints: &mut [u64], i: usize, joint: bool) {
 }
 
 // What a word is.
-#[derive(Drop)]
+#[derive(Clone, Copy)]
 enum Word {
     Token { kind: u16, joint: bool },
     Entry(Entry),
@@ -238,7 +246,8 @@ fn hold(a: Asked, kind: u16, joint: bool, kinds: &mut [u16], joints: &mut [u64])
 }
 
 // Takes the word that begins at a place and ends at another. Behind `!text` and the byte that ends it stands OpenQASM text.
-fn take(
+fn take<W: Write>(
+    out: &mut W,
     text: &[u8],
     from: usize,
     end: usize,
@@ -246,23 +255,28 @@ fn take(
     a: Asked,
     kinds: &mut [u16],
     joints: &mut [u64],
-) -> Asked
+) -> io::Result<Asked>
     requires { end ≤ length text.now }
 {
     match word_of(word, a.count) {
-        Word::Token { kind, joint } => hold(a, kind, joint, kinds, joints),
-        Word::Entry(e) => a.with_entry(e),
-        Word::Mode(m) => a.with_mode(m),
-        Word::Text => a.with_source(past(text, end)),
+        Word::Token { kind, joint } => Ok(hold(a, kind, joint, kinds, joints)),
+        Word::Entry(e) => Ok(a.with_entry(e)),
+        Word::Mode(m) => Ok(a.with_mode(m)),
+        Word::Text => Ok(a.with_source(past(text, end))),
         Word::Bad(what) => {
-            say_bad(text, from, word, what);
-            a.with_bad()
+            say_bad(out, text, from, word, what)?;
+            Ok(a.with_bad())
         }
     }
 }
 
 // Reads a text up to its end or to OpenQASM text, and says of each word that is bad where it stands.
-pub fn read(text: &[u8], kinds: &mut [u16], joints: &mut [u64]) -> Asked {
+pub fn read<W: Write>(
+    out: &mut W,
+    text: &[u8],
+    kinds: &mut [u16],
+    joints: &mut [u64],
+) -> io::Result<Asked> {
     let mut a = Asked {
         entry: Entry::Source,
         mode: 0,
@@ -273,13 +287,13 @@ pub fn read(text: &[u8], kinds: &mut [u16], joints: &mut [u64]) -> Asked {
     let mut i = word_start(text, 0);
     while i < text.len() {
         let end = word_end(text, i + 1);
-        a = take(text, i, end, &text[i..end], a, kinds, joints);
+        a = take(out, text, i, end, &text[i..end], a, kinds, joints)?;
         if a.source > 0 {
-            return a;
+            return Ok(a);
         }
         i = word_start(text, end);
     }
-    a
+    Ok(a)
 }
 
 // Whether a text leads to OpenQASM text by directives alone.

@@ -1,16 +1,20 @@
-// The tree of a step file on standard output, a line for each node, token and error, and the last line, which says how a parse ended
+// The tree of a step file to a writer, a line for each node, token and error, and the last line, which says how a parse ended
 // (docs/RULES.md, section 10).
+#![tactic(auto)]
+
 ghost use Rattle.std.specs.Prelude.{◌+◌, ◌*◌, ◌≤◌, length};
 ghost use Rattle.position.specs.Inside.{Stands};
 
 use position::{Cursor, Position, moved, position_at, position_of, start};
 use records::{Step, size};
+use std::io;
+use std::io::Write;
 use stepfile::{Found, step_at};
 use text::put;
 use tokens::table::{put_expected, put_found, put_kind, put_meaning, put_message};
 
 // Where a walk over the steps is: the nodes open, the tokens passed, the errors met.
-#[derive(Drop)]
+#[derive(Clone, Copy)]
 struct Walk {
     depth: u64,
     place: u64,
@@ -18,53 +22,55 @@ struct Walk {
 }
 
 // Where a token or an error is said to stand: at its number, or at a line and a column.
-#[derive(Drop)]
+#[derive(Clone, Copy)]
 enum Place {
     Number(u64),
     Line(Position),
 }
 
-fn put_place(place: Place) {
+fn put_place<W: Write>(out: &mut W, place: Place) -> io::Result<()> {
     match place {
-        Place::Number(n) => put(b" at %", &[n]),
-        Place::Line(p) => put(b" at %:%", &[p.line, p.column]),
+        Place::Number(n) => put(out, b" at %", &[n]),
+        Place::Line(p) => put(out, b" at %:%", &[p.line, p.column]),
     }
 }
 
-fn put_level() {
-    io::write_all(1, b"  ");
+fn put_level<W: Write>(out: &mut W) -> io::Result<()> {
+    out.write_all(b"  ")
 }
 
 // Two spaces for each level.
-fn put_indent(depth: u64) {
+fn put_indent<W: Write>(out: &mut W, depth: u64) -> io::Result<()> {
     let mut left = depth;
     while left > 0 {
-        put_level();
+        put_level(out)?;
         left -= 1;
     }
+    Ok(())
 }
 
 // The number of tokens that one is glued of, where it is more than one.
-fn put_raw(raw: u64) {
+fn put_raw<W: Write>(out: &mut W, raw: u64) -> io::Result<()> {
     if raw != 1 {
-        put(b" (% tokens)", &[raw]);
+        put(out, b" (% tokens)", &[raw])?;
     }
+    Ok(())
 }
 
 // A token, with the number of tokens that it is glued of, and where the first of them stands.
-fn put_token(kind: u64, raw: u64, place: Place) {
-    put_kind(kind);
-    put_raw(raw);
-    put_place(place);
-    put_end();
+fn put_token<W: Write>(out: &mut W, kind: u64, raw: u64, place: Place) -> io::Result<()> {
+    put_kind(out, kind)?;
+    put_raw(out, raw)?;
+    put_place(out, place)?;
+    put_end(out)
 }
 
 // A message; that of code 1 says the kind that is its argument.
-fn put_said(code: u64, argument: u64) {
+fn put_said<W: Write>(out: &mut W, code: u64, argument: u64) -> io::Result<()> {
     if code == 1 {
-        put_expected(argument);
+        put_expected(out, argument)
     } else {
-        put_message(code);
+        put_message(out, code)
     }
 }
 
@@ -73,57 +79,71 @@ fn found(kinds: &[u16], place: u64) -> u16 {
     lookahead::found_at(kinds, place as usize)
 }
 
-fn put_end() {
-    io::write_all(1, b"\n");
+fn put_end<W: Write>(out: &mut W) -> io::Result<()> {
+    out.write_all(b"\n")
 }
 
 // What stands at a place, at the end of a line.
-fn put_standing(kinds: &[u16], place: u64) {
-    put_found(found(kinds, place) as u64);
-    put_end();
+fn put_standing<W: Write>(out: &mut W, kinds: &[u16], place: u64) -> io::Result<()> {
+    put_found(out, found(kinds, place) as u64)?;
+    put_end(out)
 }
 
 // What a line begins with that says a number and where: an error's code, or why a parse is refused.
-fn put_number(what: &[u8], number: u64, place: Place) {
-    put(what, &[number]);
-    put_place(place);
-    io::write_all(1, b": ");
+fn put_number<W: Write>(out: &mut W, what: &[u8], number: u64, place: Place) -> io::Result<()> {
+    put(out, what, &[number])?;
+    put_place(out, place)?;
+    out.write_all(b": ")
 }
 
 // An error, with the tokens passed before it, where the next one stands, and its kind.
-fn put_error(kinds: &[u16], code: u64, argument: u64, passed: u64, place: Place) {
-    put_number(b"error %", code, place);
-    put_said(code, argument);
-    put_standing(kinds, passed);
+fn put_error<W: Write>(
+    out: &mut W,
+    kinds: &[u16],
+    code: u64,
+    argument: u64,
+    passed: u64,
+    place: Place,
+) -> io::Result<()> {
+    put_number(out, b"error %", code, place)?;
+    put_said(out, code, argument)?;
+    put_standing(out, kinds, passed)
 }
 
 // The same of one that says itself what was found.
-fn put_lacking(kind: u64, found: u64, place: Place) {
-    put_number(b"error %", 1, place);
-    put_expected(kind);
-    put_found(found);
-    put_end();
+fn put_lacking<W: Write>(out: &mut W, kind: u64, found: u64, place: Place) -> io::Result<()> {
+    put_number(out, b"error %", 1, place)?;
+    put_expected(out, kind)?;
+    put_found(out, found)?;
+    put_end(out)
 }
 
-fn put_node(kind: u64) {
-    put_kind(kind);
-    put_end();
+fn put_node<W: Write>(out: &mut W, kind: u64) -> io::Result<()> {
+    put_kind(out, kind)?;
+    put_end(out)
 }
 
 // What stands in the line of a step; a leave has none.
-fn put_what(kinds: &[u16], s: Step, passed: u64, place: Place) {
+fn put_what<W: Write>(
+    out: &mut W,
+    kinds: &[u16],
+    s: Step,
+    passed: u64,
+    place: Place,
+) -> io::Result<()> {
     match s {
-        Step::Enter(kind) => put_node(kind as u64),
-        Step::Leave => {}
-        Step::Token(kind, count) => put_token(kind as u64, count as u64, place),
+        Step::Enter(kind) => put_node(out, kind as u64),
+        Step::Leave => Ok(()),
+        Step::Token(kind, count) => put_token(out, kind as u64, count as u64, place),
         Step::Error(code, argument) => put_error(
+            out,
             kinds,
             code as u64,
             argument as u64,
             passed,
             place,
         ),
-        Step::Expected(kind, found) => put_lacking(kind as u64, found as u64, place),
+        Step::Expected(kind, found) => put_lacking(out, kind as u64, found as u64, place),
     }
 }
 
@@ -138,11 +158,18 @@ fn is_leave(s: Step) -> bool {
 }
 
 // The line of a step.
-fn put_step(kinds: &[u16], s: Step, w: Walk, place: Place) {
+fn put_step<W: Write>(
+    out: &mut W,
+    kinds: &[u16],
+    s: Step,
+    w: Walk,
+    place: Place,
+) -> io::Result<()> {
     if !is_leave(s) {
-        put_indent(w.depth);
-        put_what(kinds, s, w.place, place);
+        put_indent(out, w.depth)?;
+        put_what(out, kinds, s, w.place, place)?;
     }
+    Ok(())
 }
 
 // The walk past a step.
@@ -187,7 +214,14 @@ fn place_of(text: &[u8], words: &[u32], c: Cursor, passed: u64, lined: bool) -> 
 
 // Writes the tree of a step file of some tokens, and tells its errors. Where the tokens are those of a text, with the list of them all, it
 // says the lines and the columns at which they stand, and else their numbers.
-pub fn put_tree(kinds: &[u16], file: &[u8], text: &[u8], words: &[u32], lined: bool) -> u64
+pub fn put_tree<W: Write>(
+    out: &mut W,
+    kinds: &[u16],
+    file: &[u8],
+    text: &[u8],
+    words: &[u32],
+    lined: bool,
+) -> io::Result<u64>
     requires file_len_bound { length file.now ≤ 1048576 }
     requires text_len_bound { length text.now ≤ 1048576 }
 {
@@ -202,18 +236,24 @@ pub fn put_tree(kinds: &[u16], file: &[u8], text: &[u8], words: &[u32], lined: b
         match step_at(file, i) {
             Found::Sound(s) => {
                 here = moved(text, words, here, w.place as usize);
-                put_step(kinds, s, w, place_of(text, words, here, w.place, lined));
+                put_step(
+                    out,
+                    kinds,
+                    s,
+                    w,
+                    place_of(text, words, here, w.place, lined),
+                )?;
                 w = walked(s, w);
                 i += size(s);
             }
             Found::End => {
-                return w.errors;
+                return Ok(w.errors);
             }
             Found::Cut => {
-                return w.errors;
+                return Ok(w.errors);
             }
             Found::Unsound => {
-                return w.errors;
+                return Ok(w.errors);
             }
         }
     }
@@ -228,12 +268,11 @@ fn is_token(number: u32) -> bool {
 }
 
 // What stands at the place of a refusal, where that is a token's.
-fn put_here(number: u32, place: u64, kinds: &[u16]) {
+fn put_here<W: Write>(out: &mut W, number: u32, place: u64, kinds: &[u16]) -> io::Result<()> {
     if is_token(number) {
-        put_standing(kinds, place);
-        return;
+        return put_standing(out, kinds, place);
     }
-    put_end();
+    put_end(out)
 }
 
 // Where a refusal is said to be: as `place_of`, where its place is a token's.
@@ -249,20 +288,37 @@ fn refused_at(number: u32, place: u64, text: &[u8], words: &[u32], lined: bool) 
 }
 
 // The last line of a parse that is refused, and of one that is done.
-pub fn put_refused(number: u32, place: u64, kinds: &[u16], text: &[u8], words: &[u32], lined: bool)
+pub fn put_refused<W: Write>(
+    out: &mut W,
+    number: u32,
+    place: u64,
+    kinds: &[u16],
+    text: &[u8],
+    words: &[u32],
+    lined: bool,
+) -> io::Result<()>
     requires { length text.now ≤ 1048576 }
 {
     put_number(
+        out,
         b"refused %",
         number as u64,
         refused_at(number, place, text, words, lined),
-    );
-    put_meaning(number as u64);
-    put_here(number, place, kinds);
+    )?;
+    put_meaning(out, number as u64)?;
+    put_here(out, number, place, kinds)
 }
 
-pub fn put_done(place: u32, tokens: usize, events: u32, lookups: u32, errors: u64) {
+pub fn put_done<W: Write>(
+    out: &mut W,
+    place: u32,
+    tokens: usize,
+    events: u32,
+    lookups: u32,
+    errors: u64,
+) -> io::Result<()> {
     put(
+        out,
         b"done: % of % tokens, % events, % lookups, % errors\n",
         &[
             place as u64,
@@ -271,5 +327,5 @@ pub fn put_done(place: u32, tokens: usize, events: u32, lookups: u32, errors: u6
             lookups as u64,
             errors,
         ],
-    );
+    )
 }

@@ -1,0 +1,10 @@
+use Rattle.std.specs.Prelude.{◌-◌, ◌≤◌, length}
+use Rattle.cases.proofs.left.all_words.Given as goal
+
+abbrev pub invariant-loop-i : goal.invariant-loop-i
+invariant-loop-i l =
+    l.i ≤ length l.words
+
+abbrev pub decreases-loop-i : goal.decreases-loop-i
+decreases-loop-i l =
+    length l.words - l.i

@@ -1,0 +1,10 @@
+use Rattle.std.specs.Prelude.{◌+◌, ◌-◌, ◌≤◌, length}
+use Rattle.tokens.proofs.read.line_of.Given as goal
+
+abbrev pub invariant-loop-i : goal.invariant-loop-i
+invariant-loop-i l =
+    (l.i ≤ length l.text) × (l.n ≤ l.i + 1)
+
+abbrev pub decreases-loop-i : goal.decreases-loop-i
+decreases-loop-i l =
+    length l.text - l.i

@@ -1,0 +1,10 @@
+use Rattle.std.specs.Prelude.{◌-◌, ◌≤◌, length}
+use Rattle.tokens.proofs.read.word_end.Given as goal
+
+abbrev pub invariant-loop-i : goal.invariant-loop-i
+invariant-loop-i l =
+    (l.at ≤ l.i) × (l.i ≤ length l.text)
+
+abbrev pub decreases-loop-i : goal.decreases-loop-i
+decreases-loop-i l =
+    length l.text - l.i
