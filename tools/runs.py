@@ -15,40 +15,35 @@ import re
 
 LAWS = {"Does": "then _ _ _ _", "Steps": "step _ _ _ _", "Peeks": "peek _ _ _ _ _"}
 RUNS = ("Does", "Steps", "Peeks")
+WIDTH = 132  # of a line that is written
 
 
 class Fn:
-    """A function of the code, by its head and body."""
+    """A function of the code, by its head and body. cycle: the name of its cycle of calls, if it is in one."""
 
-    def __init__(self, path, name, params, ret, head, body, told):
-        self.path, self.crate, self.name, self.ret, self.head, self.body = path, path.split("/")[1], name, ret, head, body
+    def __init__(self, path, name, params, ret, head, body, told, cycle):
+        self.path, self.crate, self.name, self.ret, self.head, self.body, self.cycle = path, path.split("/")[1], name, ret, head, body, cycle
         self.params = [x.strip() for x in params.split(",") if x.strip()]
-        self.requires = re.findall(r"requires \{ (.*?) \}", head)
-        ensures = re.search(r"ensures \{ λ \S+ ⌜ (.*?) ⌝ \}", head, re.S)
+        self.requires = re.findall(r"requires (?:(\w+) )?\{ (.*?) \}\n", head)
+        ensures = re.search(r"ensures \{ (.*?) \}\n", head, re.S)
         ensures = ensures.group(1) if ensures else ""
         form = re.match(r"(Does|Steps|Peeks)\b", ensures)
         laws = [law for text, law in told if text in ensures]
         self.form = form.group(1) if form else "told" if laws else "pure"
         self.law = laws[0] if laws else LAWS.get(self.form)
         # the definition that the contract names, as the code names it
-        acts = re.sub(r"^\w+ \(env .*?\)\)\) |^Steps |^r ≡ ", "", ensures)
+        acts = re.sub(r"^\w+ \(env [^()]*\) |^Steps |^result ≡ ", "", ensures)
         m = re.match(r"\(*([\w.]+)", acts)
         self.acts = m.group(1) if m else None
 
-    def kept(self):
-        """where a call says that the room keeps its length"""
-        at = [i for i, p in enumerate(self.params) if "&mut [u32]" in p]
-        return " .1" * at[0] + " .0" if at else None
+    def fit(self):
+        """how a proof cites that the parser fits, where the contract asks for it"""
+        name = self.requires[0][0] if len(self.requires) > 1 else None
+        return "c.requires" + ("." + name if name else "")
 
-    def reads(self, crate):
-        """the module in which the contract is read, as the proofs of a crate name it"""
-        own = open(self.path, encoding="utf-8").read()
-        at = own.index(self.head)
-        impl = re.findall(r"^impl (\w+)|^(\})", own[:at], re.M)
-        stem = self.path.split("/")[-1][:-3]
-        parts = [stem if stem not in ("lib", "main") else "", impl[-1][0] if impl else "", self.name]
-        lib = "Rattle·%s·proofs.proofs" % crate if crate == self.crate else "Rattle·%s.proofs" % self.crate
-        return ".".join([lib] + [x for x in parts if x] + ["Reads"])
+    def kept(self):
+        """the room whose length a call keeps"""
+        return next((p.split(":")[0] for p in self.params if "&mut [u32]" in p), None)
 
     def definition(self):
         """(module, name) of the definition that the contract names, if it stands in a module that the file names"""
@@ -75,100 +70,18 @@ def below(crate):
 
 
 def functions(crate, told=()):
-    """name as a proof has it -> [Fn], of a crate and those below it"""
+    """name -> [Fn], of a crate and those below it"""
     out = {}
     for path in sorted(p for name in below(crate) for p in glob.glob("crates/%s/src/*.rt" % name)):
         with open(path, encoding="utf-8") as f:
             text = f.read()
-        for m in re.finditer(r"\bfn (\w+)\(([^)]*)\)(?: -> (\w+))?(.*?)\n\s*\{\n", text, re.S):
+        for m in re.finditer(r"(?:#\[cycle\((\w+)\)\]\n *)?(?:pub )?\bfn (\w+)\(([^)]*)\)(?: -> (\w+))?(.*?)\n\s*\{\n", text, re.S):
             indent = re.match(r"[ ]*", text[text.rfind("\n", 0, m.start()) + 1:]).group(0)
             end = re.search(r"\n%s\}\n" % indent, text[m.end() - 1:])
             body = text[m.end() - 1:m.end() - 1 + end.end()] if end else ""
-            fn = Fn(path, m.group(1), m.group(2), m.group(3), m.group(0), body, told)
-            out.setdefault(m.group(1).replace("_", "-"), []).append(fn)
+            fn = Fn(path, m.group(2), m.group(3), m.group(4), m.group(0), body, told, m.group(1))
+            out.setdefault(m.group(2), []).append(fn)
     return out
-
-
-def arms(body):
-    """Of the first match on a number in a body: how many keys each arm with numbers has."""
-    m = re.search(r"\n(\s*)match \w+ \{\n(.*?)\n\1\}", body, re.S)
-    keys = re.findall(r"^%s    ((?:[\w:]+)(?: \| [\w:]+)*) => " % m.group(1), m.group(2), re.M) if m else []
-    return [len(k.split("|")) for k in keys if k != "_"]
-
-
-# ---- the places of a function's code, as its generated Lts has them
-
-def places(path):
-    """Of a generated Lts: place -> [place before, field], need -> place."""
-    chain, needs, cur, pending = {}, {}, None, None
-    for line in open(path, encoding="utf-8"):
-        m = re.match(r"\s*pub record (\S+) : Type 0 where", line)
-        if m:
-            cur = m.group(1)
-            if "·" not in cur:
-                chain[cur] = [None, None]
-            continue
-        m = re.match(r"\s*pub (\S+) :\s*(\S*)", line)
-        if m and cur in chain:
-            if m.group(1) == "before":
-                chain[cur][0] = m.group(2)
-            elif chain[cur][0] and chain[cur][1] is None:
-                chain[cur][1] = m.group(1)
-            continue
-        m = re.match(r"\s*(Need-\S+) =?\s*(?:\(c : (\S+?)\))?", line)
-        if m and (line.rstrip().endswith("=") or m.group(2)):
-            cur = None
-            if m.group(2):
-                needs[m.group(1)] = m.group(2)
-            else:
-                pending = m.group(1)
-            continue
-        m = re.match(r"\s*\(c : (\S+?)\) →", line)
-        if m and pending:
-            needs[pending] = m.group(1)
-            pending = None
-    return chain, needs
-
-
-def facts(chain, place):
-    """[(path, field, place)], first in the code first; and the path of the entry"""
-    got, depth, at = [], 0, place
-    while at in chain and chain[at][0]:
-        got.append((back(depth), chain[at][1], at))
-        depth += 1
-        at = chain[at][0]
-    return got[::-1], back(depth)
-
-
-def back(n, c="c"):
-    return c + " .before" * n
-
-
-def known(place):
-    """whether a place binds something that a proof speaks of"""
-    return not re.match(r"After-(shared-)?slice-known|After-room|After-\S+-arg\d*$|After-struct-known|After-row-known", place)
-
-
-def test_form(lts_text, place, which):
-    m = re.search(r"pub record %s·own : Type 0 where\s*pub %s :(.*?)\n\n" % (re.escape(place), which), lts_text, re.S)
-    t = m.group(1) if m else ""
-    if re.search(r"Bool'?\.(true|false)", t):
-        return "true" if re.search(r"Bool'?\.true", t) else "false"
-    if "⊥" in t:
-        return "ne"
-    if "_<_" in t:
-        return "lt"
-    if "_≤_" in t:
-        return "le"
-    return "eq"
-
-
-def pick_fn(fns, field, place, crate):
-    """the function that a field of the record of a place tells of"""
-    for name in (field, re.sub(r"\d+$", "", field)):
-        if fns.get(name) and re.match(r"After-%s\d*$" % re.escape(name), place):
-            return called(fns, name, crate)
-    return None
 
 
 def called(fns, name, crate):
@@ -177,53 +90,104 @@ def called(fns, name, crate):
     return ([f for f in found if f.crate == crate] or found or [None])[0]
 
 
-def enum_arm(lts_text, place):
-    """whether a place is where an arm takes an enum's value apart"""
-    m = re.search(r"pub record %s·own : Type 0 where\s*pub given : (s\d+)\b" % re.escape(place), lts_text)
-    return bool(m and re.search(r"^\s*%s =\s*(?:λ \w+\.\s*)?Known\.k-enum-known" % m.group(1), lts_text, re.M))
+def tests(body):
+    """the conditions of a body, first in the code first"""
+    return re.findall(r"\b(?:if|while) (?!let )(.*?) \{\n", body, re.S)
 
 
-def steps(found, lts_text, fns, crate):
-    """The steps of a path: ('call', path, Fn) | ('if', path, form) | ('key', path, arm) | ('told', path) | ('loop', path) | ('copy',)"""
+def matches(body):
+    """[(value, keys, end)] of the matches of a body: what each is on, its keys, and where it begins"""
     out = []
-    for p, f, a in found:
-        if not known(a):
-            continue
-        if a.startswith("After-"):
-            if f.startswith(("enum-told", "enum-known")):
-                if out and out[-1][0] == "key":
-                    out.pop()
-                out.append(("told", "%s .%s .given .1" % (p, f)))
-                continue
-            if f.startswith("known-told"):
-                continue
-            fn = pick_fn(fns, f, a, crate)
-            if out and out[-1][0] == "key" and not fn and enum_arm(lts_text, a):
-                out[-1] = ("told", "%s .%s .given .1" % (p, f))
-                continue
-            out.append(("call", "%s .%s" % (p, f), fn) if fn else ("copy",))
-        elif re.match(r"(Then|Else)\d", a):
-            which = "taken" if a.startswith("Then") else "left"
-            out.append(("if", "%s .%s .%s" % (p, f, which), test_form(lts_text, a, which)))
-        elif a.startswith("At-match"):
-            m = re.match(r"At-match\d*-(keys\d+|rest)", a)
-            if m:
-                out.append(("key", "%s .%s .%s" % (p, f, m.group(1)), m.group(1)))
-        elif re.match(r"At-\w+$", a):
-            out.append(("loop", "%s .%s" % (p, f)))
+    for m in re.finditer(r"\n( *)(?:let \w+ = |return )?match (\w+) \{\n(.*?)\n\1\}|\bif let [^=\n]* = (\w+) \{\n|\blet [^=\n]* = (\w+) else \{\n", body, re.S):
+        keys = re.findall(r"^%s    ((?:[\w:]+)(?: \| [\w:]+)*) => " % m.group(1), m.group(3), re.M) if m.group(2) else []
+        out.append((m.group(2) or m.group(4) or m.group(5), [k for ks in keys if ks != "_" for k in ks.split(" | ")], m.start() + 1))
     return out
+
+
+# ---- the places of a function's code, as `rt names` lists them
+
+class Places:
+    """The tree of a function's places, and where each of its goals stands in it."""
+
+    def __init__(self, listed, fns):
+        self.fns = fns
+        self.stem = listed["stem"]
+        self.at = {p[0]: i for i, p in enumerate(listed["places"])}
+        self.places, self.arms = listed["places"], listed["arms"]
+        self.goals = {new: place for (_, new), (place, _) in zip(listed["needs"], listed["asked_at"])}
+        self.loops = [label for (_, label), _ in listed["loops"]]
+
+    def callee(self, goal):
+        """the function whose `requires` a goal is"""
+        for place, before, _, path, _ in self.places:
+            if before == self.goals[goal] and path:
+                return self.function(path)
+        return None
+
+    def function(self, path):
+        """the function of a path, as runtime::parser::Parser::at"""
+        words = path.split("::")
+        found = [f for f in self.fns.get(words[-1], []) if f.crate == words[0]]
+        return ([f for f in found if f.path.split("/")[-1][:-3] in words] or found or [None])[0]
+
+    def steps(self, goal, me):
+        """The steps before a goal: ('call', path, Fn) | ('if', path, form) | ('key', path, arm) | ('told', path) | ('loop', path) | ('copy',)"""
+        way, at = [], self.goals[goal]
+        while at:
+            way.append(at)
+            at = self.places[self.at[at]][1]
+        out, conditions = [], tests(me.body)
+        for place in reversed(way[:-1]):
+            _, _, (old, new), path, _ = self.places[self.at[place]]
+            arm = self.arms[self.at[place]]
+            told = arm and any(field == "is" and step == old for field, step, _ in arm[2])
+            if not known(place):
+                continue
+            if place.startswith("At-match"):
+                n = int(re.match(r"At-match(\d*)", place).group(1) or 1)
+                if place.endswith("-rest"):
+                    out.append(("key", n, "rest"))
+                elif told:
+                    out.append(("key", "c.%s.is" % arm[0], n))
+            elif told:
+                out.append(("told", "c.%s.is" % arm[0]))
+            elif arm and place.startswith("After-known_told"):
+                continue
+            elif path and self.function(path):
+                out.append(("call", "c." + new, self.function(path)))
+            elif re.match(r"(Then|Else)\d", place):
+                which = "true" if place.startswith("Then") else "false"
+                out.append(("if", "c.%s.%s" % (new, which), test_form(conditions[int(re.sub(r"\D", "", old)) - 1], which)))
+            elif re.match(r"At-\w+$", place):
+                out.append(("loop", "c." + new))
+            else:
+                out.append(("copy",))
+        return out
+
+
+def known(place):
+    """whether a place binds something that a proof speaks of"""
+    return not re.match(r"After-(shared_)?slice_known|After-room|After-\S+-arg\d*$|After-struct_known|After-row_known", place)
+
+
+def test_form(condition, which):
+    """what a test that holds, or one that does not, is a fact of"""
+    for sign, forms in ((" == ", ("eq", "ne")), (" != ", ("ne", "eq")), (" < ", ("lt", "le"))):
+        if sign in condition:
+            return forms[which == "false"]
+    return which
 
 
 # ---- the chain of laws
 
-FACT = {"true": "{}", "false": "{}", "eq": "eq-eqb _ _ ({})", "ne": "ne-eqb _ _ ({})", "lt": "lt-ltb _ _ ({})", "le": "le-ltb _ _ ({})"}
+FACT = {"true": "%s", "false": "%s", "eq": "(eq-eqb _ _ %s)", "ne": "(ne_eqb _ _ %s)", "lt": "(lt-ltb _ _ %s)", "le": "(le-ltb _ _ %s)"}
 
 
 class Chain:
     """The term for a list of steps, one law to a line."""
 
-    def __init__(self, me, skip=()):
-        self.text, self.close, self.pure, self.skip, self.me = "", 0, [], skip, me
+    def __init__(self, me):
+        self.text, self.close, self.pure, self.me, self.calls = "", 0, [], me, []
 
     def open(self, text):
         self.text += text + "\n("
@@ -231,54 +195,61 @@ class Chain:
 
     def flush(self):
         for q in self.pure:
-            self.open("rw (sym (%s))" % q)
+            self.open("rw (sym %s)" % q)
         self.pure = []
 
     def add(self, s):
         if s[0] == "call":
+            self.calls.append(s)
             fn = s[2]
             if fn.form == "pure" or fn.form == "told" and self.me.form not in RUNS:
-                self.pure.append(s[1] + " .ensures")
+                self.pure.append(s[1] + ".ensures")
                 return
             self.flush()
-            self.open("%s (%s .ensures)" % (fn.law, s[1]))
+            self.open("%s %s.ensures" % (fn.law, s[1]))
         elif s[0] in ("if", "told"):
-            if any(re.search(r" \.%s( |$)" % re.escape(x), s[1]) for x in self.skip):
-                return
-            fact = FACT[s[2]].format(s[1]) if s[0] == "if" else s[1]
+            fact = FACT[s[2]] % s[1] if s[0] == "if" else s[1]
             if self.pure:
-                fact = "sym (%s) ∙ %s" % (self.pure.pop(), fact)
+                fact = "(sym %s ∙ %s)" % (self.pure.pop(), fact)
             self.flush()
-            self.open("rw (%s)" % fact)
+            self.open("rw " + fact)
         elif s[0] == "key":
             self.flush()
             if s[2] != "rest":
-                self.open("rw (%s)" % s[1])
+                self.open("rw " + s[1])
             else:
-                counts = arms(self.me.body)
-                for i, n in enumerate(counts):
-                    no = s[1] + " .0" * (len(counts) - 1 - i) + " .1"
-                    for j in range(n):
-                        into = "q" if n == 1 else "inr (" * j + ("inl q" if j < n - 1 else "q") + ")" * j
-                        self.open("rw (ne-eqb _ _ (%s))" % (no if n == 1 else "λ q. %s (%s)" % (no, into)))
+                name, keys, end = matches(self.me.body)[s[1] - 1]
+                for key in keys:
+                    self.open("rw (ne_eqb %s %s (search rules))" % (self.value(name, end), key.split("::")[-1].replace("_", "-")))
+
+    def value(self, name, end):
+        """how a proof cites a variable of the code, as it is before a place of the body"""
+        lets = re.findall(r"\blet (?:mut )?%s = (.*?);\n" % name, self.me.body[:end], re.S)
+        if not lets:
+            return "c.args." + name
+        field = re.match(r"(\w+)\.(\w+)$", lets[-1])
+        if field:
+            return "%s.%s" % (self.value(field.group(1), end), field.group(2))
+        made = [s for s in self.calls if re.match(r"c\.%s-%s(-|$)" % (s[2].name, name), s[1])]
+        return made[-1][1] + ".result" if made else "?"
 
     def end(self, text):
         return self.text + text + ")" * self.close
 
 
-def chain(me, path, fit, ret, law, tail_ok=True, skip=(), flat=()):
+def chain(me, path, fit, ret, law, tail_ok=True, flat=()):
     """The term for a path that ends in a return of a `ret`; fit: the fit of the state where it begins; law: what flattens.
     flat: 'key' or 'match' where the arms of a match are to be flattened, each where more than one call follows"""
-    c = Chain(me, skip)
+    c = Chain(me)
     runs = [k for k, s in enumerate(path) if s[0] == "call" and s[2].form in RUNS]
     last = runs[-1] if runs else -1
     tail = tail_ok and last >= 0 and path[last][2].ret == ret and not any(s[0] in ("copy", "if", "told", "key") for s in path[last + 1:])
     for k, s in enumerate(path):
         if s[0] == "call" and s[2].form in RUNS:
-            fit = "%s .ensures .fit" % s[1]
+            fit = "%s.ensures.fit" % s[1]
             if k == last and tail:
                 c.flush()
-                body = {"Does": "%s .ensures", "Steps": "any _ _ _ (%s .ensures)", "Peeks": "peeks _ _ _ _ (%s .ensures)"}
+                body = {"Does": "%s.ensures", "Steps": "any _ _ _ %s.ensures", "Peeks": "peeks _ _ _ _ %s.ensures"}
                 return c.end(body[s[2].form] % s[1])
         c.add(s)
         if {"key": "key", "told": "match"}.get(s[0]) in flat and len([r for r in runs if r > k]) > 1:
@@ -287,37 +258,31 @@ def chain(me, path, fit, ret, law, tail_ok=True, skip=(), flat=()):
         # what is returned is what a function computes
         made = c.pure.pop()
         c.flush()
-        c.open("rw (%s)" % made)
+        c.open("rw " + made)
     c.flush()
-    return c.end("ends _ _ _ (%s)" % fit)
+    return c.end("ends _ _ _ " + fit)
 
 
 def fit_of(path, entry):
     """the fit of the state at the end of a path"""
     for s in reversed(path):
         if s[0] == "call" and s[2].form in RUNS:
-            return "%s .ensures .fit" % s[1]
+            return "%s.ensures.fit" % s[1]
         if s[0] == "loop":
-            return "%s .inv .1 .3" % s[1]
+            return "%s.invariant.1.3" % s[1]
     return entry
 
 
 def kept(path):
     """that the room has its length, nearest call first"""
-    out = []
-    for s in reversed(path):
-        if s[0] == "call" and s[2].kept():
-            out.append("%s .kept%s" % (s[1], s[2].kept()))
-        if s[0] == "loop":
-            out.append("%s .inv .0" % s[1])
-    return out
+    return ["%s.auto.%s" % (s[1], s[2].kept()) for s in reversed(path) if s[0] == "call" and s[2].kept()]
 
 
 # ---- definitions
 
 def spec_path(module):
     """the file of a module of a crate's definitions"""
-    m = re.match(r"Rattle·(\w+)(?:·specs)?\.specs\.(\w+)$", module)
+    m = re.match(r"Rattle\.(\w+)\.specs\.(\w+)$", module)
     return "crates/%s/specs/%s.antt" % m.groups() if m else None
 
 
@@ -326,6 +291,11 @@ def definition(path, name):
     text = open(path, encoding="utf-8").read()
     m = re.search(r"^( *)((?:unfoldable |abbrev |pub )*)%s :.*?(?=^ *(?:--|unfoldable|abbrev|module|pub|record)|\Z)" % re.escape(name), text, re.M | re.S)
     return m.group(0) if m else ""
+
+
+def declared(path):
+    """the names that a file of definitions declares"""
+    return re.findall(r"^(?:unfoldable |abbrev |pub )+(\S+) :", open(path, encoding="utf-8").read(), re.M)
 
 
 def nested(text):
@@ -346,138 +316,14 @@ def nested(text):
     return False
 
 
-# ---- names for places
-
-BEFORE = re.compile(r"(?<![\w.·-])c((?: \.before)*)(?=[ ),\n]|$)")
-FAR = 10  # a path to the entry that is no longer than this is written out
-
-
-class Names:
-    """Names for the places that a function's answers cite. In an answer each is bound by a `let`, from the place after it, under the name that
-    the code's call, branch or loop has there. What many answers share is a definition at the place where their ways part: `entry-P`, the
-    function's entry as seen from the place P, and `kept-P`, that the room has at P the length that it had at the entry."""
-
-    def __init__(self, chain):
-        self.chain = chain
-
-    def way(self, place):
-        """the places back to the entry, from a need's own"""
-        out = [place]
-        while self.chain.get(out[-1], [None])[0]:
-            out.append(self.chain[out[-1]][0])
-        return out
-
-    @staticmethod
-    def meet(ways):
-        """the places where two of the ways meet, or where one begins that another passes"""
-        below = {}
-        for w in ways:
-            for a, b in zip([w] + w, w):
-                below.setdefault(b, set()).add(id(a) if isinstance(a, list) else a)
-        return {p for p in below if len(below[p]) > 1}
-
-    @staticmethod
-    def title(place):
-        """a place in the name of a definition"""
-        place = re.sub(r"^(?:After|At)-", "", place)
-        return re.sub(r"^(Then|Else)(\d+)", lambda m: "if%s-%s" % (m.group(2), "taken" if m.group(1) == "Then" else "left"), place)
-
-    def share(self, answers):
-        """answers: short -> (place, text). The definitions that they share, as (name, place, kind, text), first in the code first."""
-        ways = {s: self.way(p) for s, (p, _) in answers.items()}
-        cites = [w for s, w in ways.items() if any(m.group(1).count(".before") == len(w) - 1 for m in BEFORE.finditer(answers[s][1]))]
-        self.entries = {p for p in self.meet(cites) if len(self.way(p)) - 1 > FAR}
-        rooms, self.room = [], {}
-        for s, (p, text) in answers.items():
-            if s.startswith("same-length"):
-                mine = []
-                for part in text.split(" ∙ "):
-                    m = re.match(r"c((?: \.before)*) (\.\S+) (\.kept(?P<at>(?: \.\d)+)|\.inv \.0)$", part)
-                    if not m:
-                        break
-                    place = ways[s][m.group(1).count(".before")]
-                    self.room[place] = (m.group(2) + " " + m.group(3), m.group(2) + (" .last" + m.group("at") if m.group("at") else " .room"))
-                    mine.append(place)
-                else:
-                    rooms.append(mine)
-        self.keeps = {p for p in self.meet(rooms) if len([w for w in rooms if p in w and w.index(p) < len(w) - 1]) > 1}
-        self.after = {}
-        for w in rooms:
-            for a, b in zip(w, w[1:] + [None]):
-                self.after[a] = b
-        # no entry is further from the next than a path that is written out
-        todo = sorted(p for p in self.entries | self.keeps if len(self.way(p)) - 1 > FAR)
-        self.entries |= set(todo)
-        while todo:
-            w = self.way(todo.pop())
-            if len(w) - 1 > FAR and not any(q in self.entries for q in w[1:FAR + 1]):
-                todo.append(next((q for q in reversed(w[1:FAR + 1]) if known(q)), w[FAR]))
-                self.entries.add(todo[-1])
-        defs = []
-        for p in sorted(self.entries | self.keeps, key=lambda p: (len(self.way(p)), p)):
-            if p in self.entries:
-                defs.append(("entry-" + self.title(p), p, None, self.entry(p, 1)))
-            if p in self.keeps:
-                kind = "length (c %s) ≡ length (%s .args .room .now)" % (self.room[p][1], self.entry(p, 0))
-                defs.append(("kept-" + self.title(p), p, kind, self.kept(p, p, 1)))
-        return defs
-
-    def entry(self, place, start):
-        """the entry as seen from a place"""
-        w = self.way(place)
-        for d in range(start, len(w)):
-            if w[d] in self.entries:
-                return "entry-%s %s" % (self.title(w[d]), "(%s)" % back(d) if d else "c")
-        return back(len(w) - 1)
-
-    def kept(self, place, first, start):
-        """that the room has its length, from a place; first: the nearest place that tells of it"""
-        w, out, at = self.way(place), [], first
-        while at:
-            d = w.index(at)
-            if at in self.keeps and d >= start:
-                out.append("kept-%s %s" % (self.title(at), "(%s)" % back(d) if d else "c"))
-                break
-            out.append("%s %s" % (back(d), self.room[at][0]))
-            at = self.after[at]
-        return " ∙ ".join(out)
-
-    def shared(self, short, place, text):
-        if short.startswith("same-length"):
-            m = BEFORE.match(text)
-            first = m and self.way(place)[m.group(1).count(".before")]
-            if first in self.room:
-                text = self.kept(place, first, 0)
-        n = len(self.way(place)) - 1
-        return BEFORE.sub(lambda m: self.entry(place, 0) if m.group(1).count(".before") == n else m.group(0), text)
-
-    def bound(self, place, text):
-        """`text`, an answer at a place, with a `let` for each place that it cites, where it cites two or more"""
-        depths = sorted({m.group(1).count(".before") for m in BEFORE.finditer(text)} - {0})
-        if len(depths) < 2:
-            return text
-        words = set(re.findall(r"(?<![\w.·-])[a-zA-Z][\w-]*", re.sub(r" \.\S+", "", text)))
-        way, name = self.way(place), {0: "c"}
-        for d in depths:
-            called = self.chain.get(way[d], [None, None])[1] or "entry"
-            while called in words or called in name.values():
-                called += "'"
-            name[d] = called
-        lets, last = [], 0
-        for d in depths:
-            lets.append("let %s = %s in" % (name[d], back(d - last, name[last])))
-            last = d
-        text = BEFORE.sub(lambda m: name[m.group(1).count(".before")], text)
-        return "\n" + "\n".join(lets + [re.sub(r"((?:entry|kept)-\S+) \(([\w'-]+)\)", r"\1 \2", text)])
-
-
-def wrapped(text, width=132):
+def wrapped(text):
     """long lines broken at a space, with what follows further in"""
     out = []
     for line in text.split("\n"):
         deep = " " * (len(line) - len(line.lstrip()) + 4)
-        while len(line) > width and not line.startswith(("use ", "--")):
-            at = line.rfind(" ", len(deep) + 1, width)
+        while len(line) > WIDTH and not line.startswith(("use ", "--")):
+            at = line.rfind(" (", WIDTH // 2, WIDTH)
+            at = at if at > len(deep) else line.rfind(" ", len(deep) + 1, WIDTH)
             if at < 0:
                 break
             out.append(line[:at])

@@ -1,6 +1,6 @@
 //! The port's static library behind safe functions: the thin wrapper for Rust, and what the differential runs and the benchmark call. It
-//! needs no other file. Nothing holds the declarations to the library: they are the exported functions of crates/oq3/src/lib.rt and
-//! crates/oq3_read/src/lib.rt, and a slice is a pointer and a length. What each number says stands in docs/RULES.md, and what to lend in
+//! needs no other file. Nothing holds the declarations to the library: they are the exported functions of crates/oq3_c/src/lib.rt and
+//! crates/oq3_read_c/src/lib.rt, and a slice is a pointer and a length. What each number says stands in docs/RULES.md, and what to lend in
 //! include/oq3.h. A program that only reads step files takes the last two and links `oq3_read` instead.
 
 #[link(name = "oq3", kind = "static")]
