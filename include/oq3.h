@@ -9,8 +9,8 @@
  * answers depends on what it is lent. docs/RULES.md says what each does, to the last word; oq3_kinds.h has the kinds and the error codes by
  * name, docs/KINDS.md and docs/MESSAGES.md with what they are.
  *
- * Nothing checks the calls of this header against the source (crates/oq3/src/lib.rt, crates/oq3_read/src/lib.rt): they are kept by hand, and
- * examples/c/test.c runs them.
+ * Nothing checks the calls of this header against the source (crates/oq3_c/src/lib.rt, crates/oq3_read_c/src/lib.rt): they are kept by hand,
+ * and examples/c/test.c runs them.
  *
  * What a caller owes, which no call can test:
  *   - A pointer is valid for as many elements as the length behind it says, and aligned for its type. With a length of 0 it is still
