@@ -32,14 +32,9 @@ class Fn:
         self.form = form.group(1) if form else "told" if laws else "pure"
         self.law = laws[0] if laws else LAWS.get(self.form)
         # the definition that the contract names, as the code names it
-        acts = re.sub(r"^\w+ \(env [^()]*\) |^Steps |^result ≡ ", "", ensures)
+        acts = re.sub(r"^\w+ \(tokens [^()]*\) |^Steps |^result ≡ ", "", ensures)
         m = re.match(r"\(*([\w.]+)", acts)
         self.acts = m.group(1) if m else None
-
-    def fit(self):
-        """how a proof cites that the parser fits, where the contract asks for it"""
-        name = self.requires[0][0] if len(self.requires) > 1 else None
-        return "c.requires" + ("." + name if name else "")
 
     def kept(self):
         """the room whose length a call keeps"""
@@ -75,7 +70,7 @@ def functions(crate, told=()):
     for path in sorted(p for name in below(crate) for p in glob.glob("crates/%s/src/*.rt" % name)):
         with open(path, encoding="utf-8") as f:
             text = f.read()
-        for m in re.finditer(r"(?:#\[cycle\((\w+)\)\]\n *)?(?:pub )?\bfn (\w+)\(([^)]*)\)(?: -> (\w+))?(.*?)\n\s*\{\n", text, re.S):
+        for m in re.finditer(r"(?:#\[cycle\((\w+)\)\]\n *)?(?:pub )?\bfn (\w+)\(([^)]*)\)(?: -> ([^\n]+))?(.*?)\n\s*\{\n", text, re.S):
             indent = re.match(r"[ ]*", text[text.rfind("\n", 0, m.start()) + 1:]).group(0)
             end = re.search(r"\n%s\}\n" % indent, text[m.end() - 1:])
             body = text[m.end() - 1:m.end() - 1 + end.end()] if end else ""
@@ -224,29 +219,27 @@ class Chain:
 
     def value(self, name, end):
         """how a proof cites a variable of the code, as it is before a place of the body"""
-        lets = re.findall(r"\blet (?:mut )?%s = (.*?);\n" % name, self.me.body[:end], re.S)
+        lets = re.findall(r"\blet \((?:mut )?\w+, (?:mut )?%s\) = .*?(\w+)\(" % name, self.me.body[:end], re.S)
         if not lets:
             return "c.args." + name
-        field = re.match(r"(\w+)\.(\w+)$", lets[-1])
-        if field:
-            return "%s.%s" % (self.value(field.group(1), end), field.group(2))
-        made = [s for s in self.calls if re.match(r"c\.%s-%s(-|$)" % (s[2].name, name), s[1])]
-        return made[-1][1] + ".result" if made else "?"
+        made = [s for s in self.calls if s[2].name == lets[-1]]
+        return made[-1][1] + ".result.1" if made else "?"
 
     def end(self, text):
         return self.text + text + ")" * self.close
 
 
-def chain(me, path, fit, ret, law, tail_ok=True, flat=()):
-    """The term for a path that ends in a return of a `ret`; fit: the fit of the state where it begins; law: what flattens.
+def chain(me, path, ret, law, tail_ok=True, flat=()):
+    """The term for a path that ends in a return of a `ret`; law: what flattens.
     flat: 'key' or 'match' where the arms of a match are to be flattened, each where more than one call follows"""
     c = Chain(me)
     runs = [k for k, s in enumerate(path) if s[0] == "call" and s[2].form in RUNS]
     last = runs[-1] if runs else -1
-    tail = tail_ok and last >= 0 and path[last][2].ret == ret and not any(s[0] in ("copy", "if", "told", "key") for s in path[last + 1:])
+    # a pair that is taken apart is not handed on as it is
+    apart = last >= 0 and re.match(r"c\.%s-[pq](-|$)" % path[last][2].name, path[last][1]) and path[last][2].ret.startswith("(")
+    tail = tail_ok and last >= 0 and path[last][2].ret == ret and not apart and not any(s[0] in ("copy", "if", "told", "key") for s in path[last + 1:])
     for k, s in enumerate(path):
         if s[0] == "call" and s[2].form in RUNS:
-            fit = "%s.ensures.fit" % s[1]
             if k == last and tail:
                 c.flush()
                 body = {"Does": "%s.ensures", "Steps": "any _ _ _ %s.ensures", "Peeks": "peeks _ _ _ _ %s.ensures"}
@@ -254,23 +247,13 @@ def chain(me, path, fit, ret, law, tail_ok=True, flat=()):
         c.add(s)
         if {"key": "key", "told": "match"}.get(s[0]) in flat and len([r for r in runs if r > k]) > 1:
             c.open(law)
-    if tail_ok and ret and path and path[-1][0] == "call" and path[-1][2].form == "pure" and path[-1][2].ret == ret:
-        # what is returned is what a function computes
+    if tail_ok and ret and path and path[-1][0] == "call" and path[-1][2].form == "pure" and ret.endswith(path[-1][2].ret + ")"):
+        # what is returned beside the state is what a function computes
         made = c.pure.pop()
         c.flush()
         c.open("rw " + made)
     c.flush()
-    return c.end("ends _ _ _ " + fit)
-
-
-def fit_of(path, entry):
-    """the fit of the state at the end of a path"""
-    for s in reversed(path):
-        if s[0] == "call" and s[2].form in RUNS:
-            return "%s.ensures.fit" % s[1]
-        if s[0] == "loop":
-            return "%s.invariant.1.3" % s[1]
-    return entry
+    return c.end("ends _ _ _")
 
 
 def kept(path):

@@ -12,9 +12,9 @@ MODULES = MODULES + [
     ("Rattle.kinds.specs.Sets", ["EXPR-FIRST"]),
 ]
 # the counted calls to spare, then the member's rank, which is read off the code
-MEASURE = "l.left * 64 + {}"
-C = "(counted (table_of l.mode) l.left)"
-D = "(counted (table_of l.mode) l.d)"
+MEASURE = "l.level.left * 64 + {}"
+C = "(counted (table_of l.level.mode) l.level.left)"
+D = "(counted (table_of l.d.mode) l.d.left)"
 
 
 def ran(acts, *answers):
@@ -22,7 +22,7 @@ def ran(acts, *answers):
     then, now = ["tt" if not answers else ", ".join(at + a for a in answers) for at in ("l.initial.", "l.")]
     if len(answers) > 1:
         then, now = f"({then})", f"({now})"
-    return f"(length l.room ≡ length l.initial.room) × Ran (env l.kinds l.joints) ({acts}) {then} (view l.initial.q l.initial.room) {now} (view l.q l.room)"
+    return f"(length l.room ≡ length l.initial.room) × Ran (tokens l.input) ({acts}) {then} (view l.initial.q l.initial.room) {now} (view l.q l.room)"
 
 
 EXPR_FALLS = "falls _ _ _ (expr_bp-spends _ _ _ _ _) (left-goes _ _ _ (sym $goes_on.ensures ∙ $while)) $expr_bp.ensures"
@@ -34,12 +34,12 @@ def loop(acts, answers, call, falls, **more):
 
 
 HINTS = {
-    "expr_bp": loop(f"E.expr_bp_round {D} (later {D}) (table_of l.mode) l.prefer l.bp", ["cm"], "current_op",
+    "expr_bp": loop(f"E.expr_bp_round {D} (later {D}) (table_of l.d.mode) l.prefer l.bp", ["cm"], "current_op",
                     "falls-peeks _ _ _ (op-spends _) (op-left _ (mode-fair _) _ $current_op.ensures (omega (arith, $test, c.requires.le_bp))) $current_op.ensures",
                     counted="expr_bp-deeper _ _ _ _ _ _ _", open=["E.expr_bp", "E.expr_bp_round"],
-                    claims={"expr_bp-r-requires": "omega (arith, op-next _ (mode-fair _) _ $current_op.ensures, $test, c.requires.le_bp)"}),
+                    claims={"expr_bp-p-requires": "omega (arith, op-next _ (mode-fair _) _ $current_op.ensures, $test, c.requires.le_bp)"}),
     "spec": loop(f"E.array_type_spec_round {D}", [], "expr_bp",
-                      "falls _ _ _ (expr_bp-spends _ _ _ _ _) (omega (arith, left-asked $expect.result.p (sym $is_refused.ensures ∙ $test), spent-does _ _ _ $expect.ensures, spent-does _ _ _ $expr_bp.ensures)) $expr_bp.ensures",
+                      "falls _ _ _ (expr_bp-spends _ _ _ _ _) (omega (arith, left-asked $expect.result.0 (sym $stopped.ensures ∙ $test), spent-does _ _ _ $expect.ensures, spent-does _ _ _ $expr_bp.ensures)) $expr_bp.ensures",
                       counted="type_spec-deeper _ _ _ _", open=["E.type_spec", "E.array_type_spec", "E.array_type_spec_round"], after=["complete"]),
     "cplx": dict(counted="complex_type_spec-deeper _ _ _ _", open=["E.complex_type_spec"]),
     "stmt": dict(counted="stmt-deeper _ _ _ _", open=["E.stmt", "E.let_stmt", "E.no_item"]),
@@ -57,13 +57,13 @@ HINTS = {
     "list": loop(f"P.param_list_openqasm_round {C} l.shape", ["n"], "param_ahead",
                  "falls-after-peeks _ _ _ _ ahead-spends (left-list _ _ $shape_of.result (sym $list_goes.ensures ∙ $while)) (spent-steps _ _ $start.ensures) $param_ahead.ensures",
                  inv=ran(f"P.param_list_openqasm_round {C} l.shape", "n") + " × (l.n + acts.left l.q ≤ 81938195)",
-                 holds="omega (arith, most-left $list_open.result.p)", again="omega (arith, $less, $loop.invariant.2)",
+                 holds="omega (arith, most-left $list_open.result.0)", again="omega (arith, $less, $loop.invariant.2)",
                  open=["P.param_list_openqasm_round"], after=["list_end"]),
     "par": dict(open=["P.param_typed", "E.expr_or_range_expr"], flat=["match"], plain=["returns-in-Typed"]),
     "atom": dict(open=["A.atom_of", "one_of"]),
     "gate": dict(open=["P.arg_list_gate_call_qubits"]),
     "mods": loop(f"A.modified_gate_call_expr_round {C}", [], "current", LOOK_FALLS.format("$match"),
-                 open=["A.modified_gate_call_expr_round"], after=["at", "gph", "gate"], state="(view $current.result.p $loop.room)"),
+                 open=["A.modified_gate_call_expr_round"], after=["at", "gph", "gate"], state="(view $current.result.0 $loop.room)"),
     "tup": loop(f"A.tuple_expr_round {C}", ["saw", "comma"], "expr_bp", EXPR_FALLS,
                 open=["A.tuple_expr_round"], after=["tuple_end"]),
     "arr": loop(f"A.array_expr_round {C}", ["first", "semi"], "expr_bp", EXPR_FALLS,

@@ -14,7 +14,7 @@ MODULES = [
     ("lib.ListN", ["length"]),
     ("mathlib.Core.Bool", ["false"]),
     ("mathlib.Core.Path", ["◌≡◌", "sym", "◌∙◌", "refl"]),
-    ("Rattle.input.specs.Input", ["env"]),
+    ("Rattle.input.specs.Lent", ["tokens"]),
     ("Rattle.runtime.specs.State", ["view"]),
     ("Rattle.operators.specs.Operators", ["table_of"]),
     ("Rattle.grammar.specs.Entry", ["counted", "later"]),

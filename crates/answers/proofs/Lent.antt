@@ -12,7 +12,7 @@ use Rattle.event.specs.declared.Event.{Event}
 use Rattle.event.specs.Event.{event_words, words_of}
 use Rattle.event.proofs.Rooms.{length-events}
 use Rattle.input.specs.Input.{env}
-use Rattle.runtime.specs.declared.parser.Parser.{Parser}
+use Rattle.runtime.specs.State.{Parser}
 use Rattle.runtime.specs.State.{St, view, new}
 use Rattle.runtime.specs.Cover.{events}
 use Rattle.runs.proofs.Alike.{Alike, alike-run}

@@ -15,7 +15,7 @@ use Rattle.runtime.specs.State.{view, new}
 use Rattle.laws.proofs.Tests.{by-test, apart}
 use Rattle.parse.specs.declared.Entry.{Entry}
 use Rattle.parse.specs.declared.Entry.TheVariants.{SourceFile, Item, Expression}
-use Rattle.parse.specs.declared.Answer.{Answer}
+use Rattle.parse.specs.Parse.{Answer}
 use Rattle.parse.specs.Parse.{Lent, Outcome, ends, refuses, bad_mode, too_many, few_joints, first_fault, not_permitted, acts_of, ran, leaves, number_of, settled, parsed}
 use Rattle.answers.specs.Refusals.{reaches, reason, conditions, condition, first, place_of, left_by, handed_out, row}
 use Rattle.answers.proofs.Reached.{met-run, met-reason, Reason, Reason.none, Reason.room, Reason.deep, Reason.lookups, Reason.panic}

@@ -3,55 +3,48 @@
 
 pub mod left;
 pub mod numbers;
-pub mod show;
+mod show;
 
-ghost use Rattle.std.specs.Prelude.{◌≤◌, length};
+ghost use Rattle.std.specs.Prelude.{◌≡◌, ◌≤◌, ℕ, length, drop, IfSome};
 
-use numbers::{Numbers, kinds_at, numbers_at, words_at};
-use std::io;
-use std::io::Write;
-use text::number::{Number, field};
-use text::put;
-use text::table::{Found, find};
+use numbers::numbers;
+use text::number::field;
 
 // The most words of a room or a list, and bytes of a step room, that a case has.
 pub const WORDS: usize = 131080;
 
 pub const BYTES: usize = 655368;
 
-// The first words of a line, by their number: a parse from one of the three entries, the check, resolution, and a line that is copied.
-pub fn head(line: &[u8]) -> Found
-    ensures { result.next ≤ length line.now }
+// What a line begins with: a parse from one of the three entries, the check, resolution, and a line that is copied.
+#[derive(Clone, Copy)]
+pub enum Head {
+    Source,
+    Item,
+    Expr,
+    Check,
+    Resolve,
+    Copied,
+}
+
+const HEADS: [(&str, Head); 6] = [
+    ("parse source", Head::Source),
+    ("parse item", Head::Item),
+    ("parse expr", Head::Expr),
+    ("check", Head::Check),
+    ("resolve", Head::Resolve),
+    ("#", Head::Copied),
+];
+
+// The head of a line, and what stands behind it.
+pub fn head_of(line: &[u8]) -> Option<(Head, &[u8])>
+    ensures { IfSome result (λ h. (n : ℕ) × (h.1.now ≡ drop n line.now)) }
 {
-    find(
-        b"parse source\nparse item\nparse expr\ncheck\nresolve\n#\n",
-        line,
-        false,
-    )
-}
-
-// What a line that is no case is answered.
-pub fn put_bad<W: Write>(out: &mut W) -> io::Result<()> {
-    out.write_all(b"bad line")
-}
-
-// The number and the place of an answer, and of a parse also its events and lookups.
-pub fn put_place<W: Write>(out: &mut W, code: u32, place: usize) -> io::Result<()> {
-    put(out, b"% %", &[code as u64, place as u64])
-}
-
-pub fn put_counts<W: Write>(
-    out: &mut W,
-    code: u32,
-    place: u32,
-    events: u32,
-    lookups: u32,
-) -> io::Result<()> {
-    put(
-        out,
-        b"% % % %",
-        &[code as u64, place as u64, events as u64, lookups as u64],
-    )
+    for (words, head) in HEADS {
+        if let Some(rest) = line.strip_prefix(words.as_bytes()) {
+            return Some((head, rest));
+        }
+    }
+    None
 }
 
 // What a parse is lent: the mode, the words of the room, and how many kinds and joint words were read.
@@ -61,78 +54,57 @@ pub struct Parse {
     pub room: usize,
     pub kinds: usize,
     pub joints: usize,
-    pub ok: bool,
 }
 
-// What a resolution is lent: the bytes of the room, where the list stands in the line, and how many words were read.
+// What a resolution is lent: the bytes of the room, and how many words were read.
 #[derive(Clone, Copy)]
 pub struct Resolve {
     pub room: usize,
-    pub list: usize,
     pub words: usize,
-    pub ok: bool,
 }
 
-fn both(a: bool, b: bool) -> bool {
-    if a { b } else { false }
-}
-
-// A parse as its numbers say, unless one of them is missing.
-fn lent(mode: Number, size: Number, k: Numbers, j: Numbers, line: &[u8]) -> Parse
-    requires { (mode.value ≤ 4294967295) × (size.value ≤ 4294967295) }
-    ensures { (result.room ≤ 131080) × (result.kinds ≤ k.count) × (result.joints ≤ j.count) }
+// The size of a room that is at most the given one.
+fn size(line: &[u8], most: usize) -> Option<(usize, &[u8])>
+    ensures { IfSome result (λ n. n.0 ≤ most) }
 {
-    let ok = both(both(mode.ok, size.ok), both(k.ok, j.ends(line)));
-    if size.value > WORDS as u64 {
-        return Parse {
-            mode: 0,
-            room: 0,
-            kinds: 0,
-            joints: 0,
-            ok: false,
-        };
+    let (size, rest) = field(line)?;
+    let size = size as usize;
+    if size > most {
+        return None;
     }
-    Parse {
-        mode: mode.value as u32,
-        room: size.value as usize,
-        kinds: k.count,
-        joints: j.count,
-        ok,
-    }
+    Some((size, rest))
 }
 
-// Reads `MODE ROOM KINDS JOINTS` from a place on.
-pub fn read_parse(line: &[u8], from: usize, kinds: &mut [u16], joints: &mut [u64]) -> Parse
-    requires { from ≤ length line.now }
-    ensures { (result.room ≤ 131080) × (result.kinds ≤ length kinds.new) × (result.joints ≤ length joints.new) }
+// Reads `MODE ROOM KINDS JOINTS`, and nothing behind it.
+pub fn read_parse(line: &[u8], kinds: &mut [u16], joints: &mut [u64]) -> Option<Parse>
+    ensures room { IfSome result (λ p. p.room ≤ 131080) }
+    ensures kinds { IfSome result (λ p. p.kinds ≤ length kinds.new) }
+    ensures joints { IfSome result (λ p. p.joints ≤ length joints.new) }
 {
-    let mode = field(line, from);
-    let size = field(line, mode.next);
-    let k = kinds_at(line, size.next, kinds);
-    let j = numbers_at(line, k.next, 16, joints);
-    lent(mode, size, k, j, line)
+    let (mode, rest) = field(line)?;
+    let (room, rest) = size(rest, WORDS)?;
+    let (kinds, rest) = numbers(rest, 10, kinds)?;
+    let (joints, rest) = numbers(rest, 16, joints)?;
+    if !rest.is_empty() {
+        return None;
+    }
+    Some(Parse {
+        mode,
+        room,
+        kinds,
+        joints,
+    })
 }
 
-// Reads `ROOM WORDS` from a place on.
-pub fn read_resolve(line: &[u8], from: usize, words: &mut [u32]) -> Resolve
-    requires { from ≤ length line.now }
-    ensures { (result.room ≤ 655368) × (result.list ≤ length line.now) × (result.words ≤ length words.new) }
+// Reads `ROOM WORDS`, and nothing behind it.
+pub fn read_resolve(line: &[u8], words: &mut [u32]) -> Option<Resolve>
+    ensures room { IfSome result (λ r. r.room ≤ 655368) }
+    ensures words { IfSome result (λ r. r.words ≤ length words.new) }
 {
-    let size = field(line, from);
-    let l = words_at(line, size.next, words);
-    let ok = both(size.ok, l.ends(line));
-    if size.value > BYTES as u64 {
-        return Resolve {
-            room: 0,
-            list: 0,
-            words: 0,
-            ok: false,
-        };
+    let (room, rest) = size(line, BYTES)?;
+    let (words, rest) = numbers(rest, 10, words)?;
+    if !rest.is_empty() {
+        return None;
     }
-    Resolve {
-        room: size.value as usize,
-        list: size.next,
-        words: l.count,
-        ok,
-    }
+    Some(Resolve { room, words })
 }

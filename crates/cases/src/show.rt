@@ -1,49 +1,35 @@
-// Lists of numbers to a writer, `-` for none.
-use std::io;
-use std::io::Write;
-use text::put_decimal;
+// Lists of numbers as text, `-` for none.
+use std::fmt;
 
-fn put_none<W: Write>(out: &mut W, count: usize) -> io::Result<()> {
-    if count == 0 {
-        out.write_all(b"-")?;
+// Words in decimal, with commas.
+#[derive(Clone, Copy)]
+pub struct Words<'a>(pub &'a [u32]);
+
+impl fmt::Display for Words<'_> {
+    fn fmt<W: fmt::Write>(&self, f: &mut fmt::Formatter<W>) -> fmt::Result {
+        let Some((first, others)) = self.0.split_first() else {
+            return f.write_str("-");
+        };
+        write!(f, "{first}")?;
+        for word in others {
+            write!(f, ",{word}")?;
+        }
+        Ok(())
     }
-    Ok(())
 }
 
-fn put_comma<W: Write>(out: &mut W) -> io::Result<()> {
-    out.write_all(b",")
-}
+// Bytes in hexadecimal.
+#[derive(Clone, Copy)]
+pub struct Bytes<'a>(pub &'a [u8]);
 
-// The word at a place of a list.
-fn put_word<W: Write>(out: &mut W, i: usize, w: u32) -> io::Result<()> {
-    if i > 0 {
-        put_comma(out)?;
+impl fmt::Display for Bytes<'_> {
+    fn fmt<W: fmt::Write>(&self, f: &mut fmt::Formatter<W>) -> fmt::Result {
+        if self.0.is_empty() {
+            return f.write_str("-");
+        }
+        for byte in self.0 {
+            write!(f, "{byte:02x}")?;
+        }
+        Ok(())
     }
-    put_decimal(out, w as u64)
-}
-
-// Writes words with commas.
-pub fn put_words<W: Write>(out: &mut W, words: &[u32]) -> io::Result<()> {
-    put_none(out, words.len())?;
-    let mut i = 0;
-    while i < words.len() {
-        put_word(out, i, words[i])?;
-        i += 1;
-    }
-    Ok(())
-}
-
-fn put_byte<W: Write>(out: &mut W, b: u8) -> io::Result<()> {
-    write!(out, "{b:02x}")
-}
-
-// Writes bytes in hexadecimal.
-pub fn put_bytes<W: Write>(out: &mut W, bytes: &[u8]) -> io::Result<()> {
-    put_none(out, bytes.len())?;
-    let mut i = 0;
-    while i < bytes.len() {
-        put_byte(out, bytes[i])?;
-        i += 1;
-    }
-    Ok(())
 }

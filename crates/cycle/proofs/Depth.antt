@@ -6,13 +6,13 @@ use mathlib.Core.List.{[]}
 use Prim.Native.Nat.{ℕ, zero, suc, pred, ◌-◌, ◌≤◌, ◌<◌}
 use native.Mathlib.Numerals.{sub-one}
 use native.Mathlib.Omega.{arith}
-use Rattle.runtime.specs.declared.parser.Parser.{Parser}
+use Rattle.runtime.specs.State.{Parser}
+use Rattle.std.specs.Prelude.{Option}
+use Rattle.runtime.specs.declared.parser.Completed.{Completed}
 use Rattle.input.specs.Input.{Env}
 use Rattle.runtime.specs.State.{St, view}
 use Rattle.runtime.specs.Acts.{Acts, Does, Peeks, left}
 use Rattle.runtime.proofs.Laws.{Spends, peeks}
-use Rattle.grammar.specs.declared.Mark.{Mark}
-use Rattle.grammar.specs.declared.Got.{Got}
 use Rattle.operators.specs.Operators.{Table}
 use Rattle.grammar.specs.Expressions as E
 use Rattle.grammar.specs.Params as P
@@ -24,7 +24,7 @@ unfolding counted
 one_down ops zero h = absurd (h refl)
 one_down ops (suc n) h = rw (sub-one (suc n))
 
-pub expr_bp-deeper : (e : Env) (ops : Table) (n : ℕ) (m : Mark) (prefer : Bool) (bp : ℕ) (s : St) {a : Got} {r : St} → (n ≡ 0 → ⊥) → Does e (E.expr_bp (counted ops (n - 1)) (later (counted ops (n - 1))) ops m prefer bp) s a r → Does e ((counted ops n).expr_bp m prefer bp) s a r
+pub expr_bp-deeper : (e : Env) (ops : Table) (n : ℕ) (m : Option ℕ) (prefer : Bool) (bp : ℕ) (s : St) {a : (Option (Completed × Bool))} {r : St} → (n ≡ 0 → ⊥) → Does e (E.expr_bp (counted ops (n - 1)) (later (counted ops (n - 1))) ops m prefer bp) s a r → Does e ((counted ops n).expr_bp m prefer bp) s a r
 expr_bp-deeper e ops n m prefer bp s h d = rw (one_down ops n h) d
 
 pub stmt-deeper : (e : Env) (ops : Table) (n : ℕ) (s : St) {r : St} → (n ≡ 0 → ⊥) → Does e (E.stmt (counted ops (n - 1)) (later (counted ops (n - 1)))) s tt r → Does e (counted ops n).stmt s tt r

@@ -1,12 +1,15 @@
 // The productions that call one another, in one cycle: src/grammar.rs and the files below it, in the crate's order. Each counted call has
 // one call less to spare, `left`; docs/ARCHITECTURE.md says which function of the crate is where, docs/DECISIONS.md why the names are short.
+// Stays (rule): a function for each of the crate, also where two differ by a keyword and a node, as `ret` and `bx` do.
+// Stays (rule): the room and the state are parameters of their own. The state goes by value and is handed back, the room is lent, and with the room
+// in a struct beside the `Input` each contract would have to say that the `Input` is as it was.
 #![tactic(auto)]
 
 pub mod entry;
 
 ghost use Rattle.std.specs.Prelude.{◌≡◌, ◌≤◌};
-ghost use Rattle.input.specs.Input.{env};
-ghost use Rattle.runtime.specs.State.{view, Fit};
+ghost use Rattle.input.specs.Lent.{tokens};
+ghost use Rattle.runtime.specs.State.{view};
 ghost use Rattle.runtime.specs.Acts.{Does};
 ghost use Rattle.operators.specs.Operators.{table_of};
 ghost use Rattle.grammar.specs.Grammar as G;
@@ -16,396 +19,301 @@ ghost use Rattle.grammar.specs.Atom as atoms;
 ghost use Rattle.grammar.specs.Items as I;
 ghost use Rattle.grammar.specs.Entry.{counted, later};
 
-use grammar::{DefFlavor, Got, How, Mark, Next, Offer, Offered, Parsed};
+use grammar::{DefFlavor, How, Next};
+use input::Input;
 use kinds::sets::Fixed;
 use kinds::{messages as say, syntax_kind as kind, syntax_kind_enum as k};
-use runtime::parser::{Completed, Done, Parser, Stop, Told};
+use runtime::parser::{Completed, Parser, Stop};
 use statements::{items, params};
 use terms::{atom, expressions};
+
+// What a production is lent beside the state: the operators' mode, and how many counted calls it may still make.
+#[derive(Clone, Copy)]
+pub struct Level {
+    pub mode: u8,
+    pub left: u32,
+}
 
 // ---- src/grammar.rs
 
 // the end of def_stmt and defcal_: opt_ret_type, and the body
 #[cycle(productions)]
-fn sig(
-    kinds: &[u16],
-    joints: &[u64],
-    room: &mut [u32],
-    p: Parser,
-    mode: u8,
-    left: u32,
-    m: u32,
-    node: u16,
-) -> Parser
-    requires { Fit p }
-    ensures { Does (env kinds.now joints.now) (I.signature (counted (table_of mode) left) m node) (view p room.old) tt (view result room.new) }
+fn sig(input: &Input, room: &mut [u32], p: Parser, level: Level, m: u32, node: u16) -> Parser
+    ensures { Does (tokens input.now) (I.signature (counted (table_of level.mode) level.left) m node) (view p room.old) tt (view result room.new) }
 {
-    if p.at(kinds, joints, k::THIN_ARROW) {
-        let s = p.start(room);
-        let p1 = s.p;
-        let p2 = p1.bump(kinds, joints, room, k::THIN_ARROW);
-        let p3 = grammar::scalar_return(kinds, joints, room, p2);
-        let l = p3.current(kinds, joints);
-        let p4 = l.p;
-        if kind::is_type(l.kind) {
-            let p5 = spec(kinds, joints, room, p4, mode, left);
-            let p6 = grammar::completed(room, p5, s.m, k::RETURN_SIGNATURE);
-            let p7 = body(kinds, joints, room, p6, mode, left);
-            return grammar::completed(room, p7, m, node);
+    if p.at(input, k::THIN_ARROW) {
+        let (p, m1) = p.start(room);
+        let p = p.bump(input, room, k::THIN_ARROW);
+        let p = grammar::scalar_return(input, room, p);
+        let (p, here) = p.current(input);
+        if kind::is_type(here) {
+            let p = spec(input, room, p, level);
+            let p = grammar::completed(room, p, m1, k::RETURN_SIGNATURE);
+            let p = body(input, room, p, level);
+            return grammar::completed(room, p, m, node);
         }
-        let p9 = p4.abandon(room, s.m);
-        let p10 = body(kinds, joints, room, p9, mode, left);
-        return grammar::completed(room, p10, m, node);
+        let p = p.abandon(room, m1);
+        let p = body(input, room, p, level);
+        return grammar::completed(room, p, m, node);
     }
-    let p12 = body(kinds, joints, room, p, mode, left);
-    grammar::completed(room, p12, m, node)
+    let p = body(input, room, p, level);
+    grammar::completed(room, p, m, node)
 }
 
 // ---- src/grammar/params.rs
 
 // expression_list
 #[cycle(productions)]
-fn els(kinds: &[u16], joints: &[u64], room: &mut [u32], p: Parser, mode: u8, left: u32) -> Parser
-    requires { Fit p }
-    ensures { Does (env kinds.now joints.now) (counted (table_of mode) left).expression_list (view p room.old) tt (view result room.new) }
+fn els(input: &Input, room: &mut [u32], p: Parser, level: Level) -> Parser
+    ensures { Does (tokens input.now) (counted (table_of level.mode) level.left).expression_list (view p room.old) tt (view result room.new) }
 {
-    if left == 0 {
+    if level.left == 0 {
         return p.stop(room, Stop::Deep);
     }
-    let d = left - 1;
-    list(kinds, joints, room, p, mode, d, DefFlavor::ExpressionList)
+    let d = Level {
+        left: level.left - 1,
+        ..level
+    };
+    list(input, room, p, d, DefFlavor::ExpressionList)
 }
 
 // _param_list_openqasm
 #[cycle(productions)]
-fn list(
-    kinds: &[u16],
-    joints: &[u64],
-    room: &mut [u32],
-    p: Parser,
-    mode: u8,
-    left: u32,
-    flavor: DefFlavor,
-) -> Parser
-    requires { Fit p }
-    ensures { Does (env kinds.now joints.now) (P.param_list_openqasm (counted (table_of mode) left) flavor) (view p room.old) tt (view result room.new) }
+fn list(input: &Input, room: &mut [u32], p: Parser, level: Level, flavor: DefFlavor) -> Parser
+    ensures { Does (tokens input.now) (P.param_list_openqasm (counted (table_of level.mode) level.left) flavor) (view p room.old) tt (view result room.new) }
 {
     let shape = params::shape_of(flavor);
     let how = shape.how;
-    let s = params::list_open(kinds, joints, room, p, shape);
-    let m = s.m;
-    let mut q = s.p;
+    let (mut q, m) = params::list_open(input, room, p, shape);
+    // Stays (plainer): the count of parameters that were found, not of rounds; `list_end` is told it.
     let mut n: u32 = 0;
-    while params::list_goes(kinds, joints, q, shape) {
-        let s1 = q.start(room);
-        let q1 = s1.p;
-        let b = params::param_ahead(kinds, joints, q1);
-        let q2 = b.p;
-        if b.yes {
-            let f = par(kinds, joints, room, q2, mode, left, how, s1.m);
-            let q3 = f.p;
-            if f.yes {
+    while params::list_goes(input, q, shape) {
+        let (p, m1) = q.start(room);
+        let (p, ahead) = params::param_ahead(input, p);
+        if ahead {
+            let (p, found) = par(input, room, p, level, how, m1);
+            if found {
                 n = n + 1;
-                let t = params::list_next(kinds, joints, room, q3, shape);
-                q = t.p;
-                if t.yes {
+                let (p, more) = params::list_next(input, room, p, shape);
+                q = p;
+                if more {
                     continue;
                 }
-                return params::list_end(kinds, joints, room, q, m, shape, n);
+                return params::list_end(input, room, q, m, shape, n);
             }
-            return params::list_end(kinds, joints, room, q3, m, shape, n);
+            return params::list_end(input, room, p, m, shape, n);
         }
-        let q4 = q2.error(room, say::EXPECTED_VALUE_PARAMETER, 0);
-        let q5 = q4.abandon(room, s1.m);
-        return params::list_end(kinds, joints, room, q5, m, shape, n);
+        let p = p.error(room, say::EXPECTED_VALUE_PARAMETER, 0);
+        let p = p.abandon(room, m1);
+        return params::list_end(input, room, p, m, shape, n);
     }
-    params::list_end(kinds, joints, room, q, m, shape, n)
+    params::list_end(input, room, q, m, shape, n)
 }
 
 // one parameter of _param_list_openqasm: expr_or_range_expr, arg_gate_call_qubit, param_typed or param_untyped
 #[cycle(productions)]
-fn par(
-    kinds: &[u16],
-    joints: &[u64],
-    room: &mut [u32],
-    p: Parser,
-    mode: u8,
-    left: u32,
-    how: How,
-    m: u32,
-) -> Told
-    requires { Fit p }
-    ensures { Does (env kinds.now joints.now) (P.found_param (counted (table_of mode) left) how m) (view p room.old) result.yes (view result.p room.new) }
+fn par(input: &Input, room: &mut [u32], p: Parser, level: Level, how: How, m: u32) -> (Parser, bool)
+    ensures { Does (tokens input.now) (P.found_param (counted (table_of level.mode) level.left) how m) (view p room.old) result.1 (view result.0 room.new) }
 {
     match how {
         How::Expr => {
-            let p1 = p.abandon(room, m);
-            let s = p1.start(room);
-            let p2 = s.p;
-            let e = expr_bp(kinds, joints, room, p2, mode, left, Mark::Fresh, false, 1);
-            let p3 = e.p;
-            if p3.at(kinds, joints, k::COLON) {
-                let p4 = p3.bump(kinds, joints, room, k::COLON);
-                let e1 = expr_bp(kinds, joints, room, p4, mode, left, Mark::Fresh, false, 1);
-                let p5 = e1.p;
-                if p5.at(kinds, joints, k::COLON) {
-                    let p6 = p5.bump(kinds, joints, room, k::COLON);
-                    let e2 = expr_bp(kinds, joints, room, p6, mode, left, Mark::Fresh, false, 1);
-                    let p7 = e2.p;
-                    let p8 = grammar::completed(room, p7, s.m, k::RANGE_EXPR);
-                    return Told { p: p8, yes: true };
+            let p = p.abandon(room, m);
+            let (p, m1) = p.start(room);
+            let (p, _) = expr_bp(input, room, p, level, None, false, 1);
+            if p.at(input, k::COLON) {
+                let p = p.bump(input, room, k::COLON);
+                let (p, _) = expr_bp(input, room, p, level, None, false, 1);
+                if p.at(input, k::COLON) {
+                    let p = p.bump(input, room, k::COLON);
+                    let (p, _) = expr_bp(input, room, p, level, None, false, 1);
+                    let p = grammar::completed(room, p, m1, k::RANGE_EXPR);
+                    return (p, true);
                 }
-                let p9 = grammar::completed(room, p5, s.m, k::RANGE_EXPR);
-                return Told { p: p9, yes: true };
+                let p = grammar::completed(room, p, m1, k::RANGE_EXPR);
+                return (p, true);
             }
-            let p10 = p3.abandon(room, s.m);
-            return Told { p: p10, yes: true };
+            let p = p.abandon(room, m1);
+            return (p, true);
         }
         How::Qubit => {
-            return qarg(kinds, joints, room, p, mode, left, m);
+            return qarg(input, room, p, level, m);
         }
         How::Typed => {
-            let p1 = spec(kinds, joints, room, p, mode, left);
-            let p2 = grammar::var_name(kinds, joints, room, p1);
-            let p3 = grammar::completed(room, p2, m, k::TYPED_PARAM);
-            return Told { p: p3, yes: true };
+            let p = spec(input, room, p, level);
+            let p = grammar::var_name(input, room, p);
+            let p = grammar::completed(room, p, m, k::TYPED_PARAM);
+            return (p, true);
         }
         How::Untyped => {
-            return params::param_untyped(kinds, joints, room, p, m);
+            return params::param_untyped(input, room, p, m);
         }
     }
 }
 
 // arg_gate_call_qubit
 #[cycle(productions)]
-fn qarg(
-    kinds: &[u16],
-    joints: &[u64],
-    room: &mut [u32],
-    p: Parser,
-    mode: u8,
-    left: u32,
-    m: u32,
-) -> Told
-    requires { Fit p }
-    ensures { Does (env kinds.now joints.now) (P.arg_gate_call_qubit (counted (table_of mode) left) m) (view p room.old) result.yes (view result.p room.new) }
+fn qarg(input: &Input, room: &mut [u32], p: Parser, level: Level, m: u32) -> (Parser, bool)
+    ensures { Does (tokens input.now) (P.arg_gate_call_qubit (counted (table_of level.mode) level.left) m) (view p room.old) result.1 (view result.0 room.new) }
 {
-    if p.at(kinds, joints, k::HARDWAREIDENT) {
-        let p1 = p.bump(kinds, joints, room, k::HARDWAREIDENT);
-        let p2 = grammar::completed(room, p1, m, k::HARDWARE_QUBIT);
-        return Told { p: p2, yes: true };
+    if p.at(input, k::HARDWAREIDENT) {
+        let p = p.bump(input, room, k::HARDWAREIDENT);
+        let p = grammar::completed(room, p, m, k::HARDWARE_QUBIT);
+        return (p, true);
     }
-    if p.at(kinds, joints, k::IDENT) {
-        let p3 = p.bump(kinds, joints, room, k::IDENT);
-        let d = p3.complete(room, m, k::IDENTIFIER);
-        let p4 = d.p;
-        let cm = d.cm;
-        if p4.at(kinds, joints, k::L_BRACK) {
-            let x = ids(kinds, joints, room, p4, mode, left, cm);
-            let p5 = x.p;
-            return Told { p: p5, yes: true };
+    if p.at(input, k::IDENT) {
+        let p = p.bump(input, room, k::IDENT);
+        let (p, cm) = p.complete(room, m, k::IDENTIFIER);
+        if p.at(input, k::L_BRACK) {
+            let (p, _) = ids(input, room, p, level, cm);
+            return (p, true);
         }
-        return Told { p: p4, yes: true };
+        return (p, true);
     }
-    let p6 = p.error(room, say::EXPECTED_NAME_IN_QUBIT_ARGUMENT, 0);
-    let p7 = p6.abandon(room, m);
-    Told { p: p7, yes: false }
+    let p = p.error(room, say::EXPECTED_NAME_IN_QUBIT_ARGUMENT, 0);
+    let p = p.abandon(room, m);
+    (p, false)
 }
 
 // ---- src/grammar/expressions/atom.rs
 
 // atom_expr
 #[cycle(productions)]
-fn atom(kinds: &[u16], joints: &[u64], room: &mut [u32], p: Parser, mode: u8, left: u32) -> Parsed
-    requires { Fit p }
-    ensures { Does (env kinds.now joints.now) (atoms.atom_expr (counted (table_of mode) left)) (view p room.old) result.got (view result.p room.new) }
+fn atom(
+    input: &Input,
+    room: &mut [u32],
+    p: Parser,
+    level: Level,
+) -> (Parser, Option<(Completed, bool)>)
+    ensures { Does (tokens input.now) (atoms.atom_expr (counted (table_of level.mode) level.left)) (view p room.old) result.1 (view result.0 room.new) }
 {
-    let g = atom::literal(kinds, joints, room, p);
-    let p1 = g.p;
-    let got = g.got;
-    if let Got::Is(cm, _) = got {
-        return Parsed {
-            p: p1,
-            got: Got::Is(cm, false),
-        };
+    let (p, got) = atom::literal(input, room, p);
+    if let Some((cm, _)) = got {
+        return (p, Some((cm, false)));
     }
-    let la = p1.nth(kinds, joints, 1);
-    let p2 = la.p;
-    let l = p2.current(kinds, joints);
-    let p4 = l.p;
-    if kind::is_classical_type(l.kind) {
-        let d = cast(kinds, joints, room, p4, mode, left);
-        let q = d.p;
-        let cm = d.cm;
-        return Parsed {
-            p: q,
-            got: Got::Is(cm, false),
-        };
+    let (p, next) = p.nth(input, 1);
+    let (p, here) = p.current(input);
+    if kind::is_classical_type(here) {
+        let (q, cm) = cast(input, room, p, level);
+        return (q, Some((cm, false)));
     }
-    let l2 = p4.current(kinds, joints);
-    let p3 = l2.p;
-    let first = l2.kind;
-    let next = la.kind;
+    let (p, first) = p.current(input);
     match first {
         k::HARDWAREIDENT => {
-            let d = grammar::hardware_qubit(kinds, joints, room, p3);
-            return atom::node(d);
+            let (p, cm) = grammar::hardware_qubit(input, room, p);
+            return (p, atom::node(cm));
         }
         k::L_PAREN => {
-            let d = tup(kinds, joints, room, p3, mode, left);
-            return atom::node(d);
+            let (p, cm) = tup(input, room, p, level);
+            return (p, atom::node(cm));
         }
         k::L_BRACK => {
-            let d = arr(kinds, joints, room, p3, mode, left);
-            return atom::node(d);
+            let (p, cm) = arr(input, room, p, level);
+            return (p, atom::node(cm));
         }
         k::BOX_KW => {
-            let d = bx(kinds, joints, room, p3, mode, left);
-            return atom::node(d);
+            let (p, cm) = bx(input, room, p, level);
+            return (p, atom::node(cm));
         }
         k::MEASURE_KW => {
-            let d = meas(kinds, joints, room, p3, mode, left);
-            return atom::node(d);
+            let (p, cm) = meas(input, room, p, level);
+            return (p, atom::node(cm));
         }
         k::RETURN_KW => {
-            let d = ret(kinds, joints, room, p3, mode, left);
-            return atom::node(d);
+            let (p, cm) = ret(input, room, p, level);
+            return (p, atom::node(cm));
         }
         k::L_CURLY => {
-            let d = blk(kinds, joints, room, p3, mode, left);
-            return atom::node(d);
+            let (p, cm) = blk(input, room, p, level);
+            return (p, atom::node(cm));
         }
         k::INV_KW => {
-            let d = mods(kinds, joints, room, p3, mode, left);
-            return atom::node(d);
+            let (p, cm) = mods(input, room, p, level);
+            return (p, atom::node(cm));
         }
         k::POW_KW => {
-            let d = mods(kinds, joints, room, p3, mode, left);
-            return atom::node(d);
+            let (p, cm) = mods(input, room, p, level);
+            return (p, atom::node(cm));
         }
         k::CTRL_KW => {
-            let d = mods(kinds, joints, room, p3, mode, left);
-            return atom::node(d);
+            let (p, cm) = mods(input, room, p, level);
+            return (p, atom::node(cm));
         }
         k::NEGCTRL_KW => {
-            let d = mods(kinds, joints, room, p3, mode, left);
-            return atom::node(d);
+            let (p, cm) = mods(input, room, p, level);
+            return (p, atom::node(cm));
         }
         k::GPHASE_KW => {
-            let d = gph(kinds, joints, room, p3, mode, left);
-            return atom::node(d);
+            let (p, cm) = gph(input, room, p, level);
+            return (p, atom::node(cm));
         }
         k::IDENT => {
             if Fixed::QubitFirst.has(next) {
-                let d = gate(kinds, joints, room, p3, mode, left);
-                return atom::node(d);
+                let (p, cm) = gate(input, room, p, level);
+                return (p, atom::node(cm));
             }
-            let d = atom::identifier(kinds, joints, room, p3);
-            return atom::node(d);
+            let (p, cm) = atom::identifier(input, room, p);
+            return (p, atom::node(cm));
         }
         _ => {
-            let q = p3.err_and_bump(kinds, joints, room, say::ATOM_EXPR_EXPECTED_EXPRESSION);
-            return Parsed {
-                p: q,
-                got: Got::Nothing,
-            };
+            let q = p.err_and_bump(input, room, say::ATOM_EXPR_EXPECTED_EXPRESSION);
+            return (q, None);
         }
     }
 }
 
 // cast_expr
 #[cycle(productions)]
-fn cast(kinds: &[u16], joints: &[u64], room: &mut [u32], p: Parser, mode: u8, left: u32) -> Done
-    requires { Fit p }
-    ensures { Does (env kinds.now joints.now) (atoms.cast_expr (counted (table_of mode) left)) (view p room.old) result.cm (view result.p room.new) }
+fn cast(input: &Input, room: &mut [u32], p: Parser, level: Level) -> (Parser, Completed)
+    ensures { Does (tokens input.now) (atoms.cast_expr (counted (table_of level.mode) level.left)) (view p room.old) result.1 (view result.0 room.new) }
 {
-    let s = p.start(room);
-    let p1 = s.p;
-    let p2 = spec(kinds, joints, room, p1, mode, left);
-    let p3 = grammar::expected(kinds, joints, room, p2, k::L_PAREN);
-    let e = expr_bp(kinds, joints, room, p3, mode, left, Mark::Fresh, false, 1);
-    let p4 = e.p;
-    let p5 = grammar::expected(kinds, joints, room, p4, k::R_PAREN);
-    p5.complete(room, s.m, k::CAST_EXPRESSION)
+    let (p, m) = p.start(room);
+    let p = spec(input, room, p, level);
+    let p = grammar::expected(input, room, p, k::L_PAREN);
+    let (p, _) = expr_bp(input, room, p, level, None, false, 1);
+    let p = grammar::expected(input, room, p, k::R_PAREN);
+    p.complete(room, m, k::CAST_EXPRESSION)
 }
 
 // gphase_call_expr
 #[cycle(productions)]
-fn gph(kinds: &[u16], joints: &[u64], room: &mut [u32], p: Parser, mode: u8, left: u32) -> Done
-    requires { Fit p }
-    ensures { Does (env kinds.now joints.now) (atoms.gphase_call_expr (counted (table_of mode) left)) (view p room.old) result.cm (view result.p room.new) }
+fn gph(input: &Input, room: &mut [u32], p: Parser, level: Level) -> (Parser, Completed)
+    ensures { Does (tokens input.now) (atoms.gphase_call_expr (counted (table_of level.mode) level.left)) (view p room.old) result.1 (view result.0 room.new) }
 {
-    let p1 = p.must(kinds, joints, room, k::GPHASE_KW);
-    let s = p1.start(room);
-    let p2 = s.p;
-    let p3 = p2.bump(kinds, joints, room, k::GPHASE_KW);
-    let e = expr_bp(kinds, joints, room, p3, mode, left, Mark::Fresh, false, 1);
-    let p4 = e.p;
-    p4.complete(room, s.m, k::G_PHASE_CALL_EXPR)
+    let p = p.must(input, room, k::GPHASE_KW);
+    let (p, m) = p.start(room);
+    let p = p.bump(input, room, k::GPHASE_KW);
+    let (p, _) = expr_bp(input, room, p, level, None, false, 1);
+    p.complete(room, m, k::G_PHASE_CALL_EXPR)
 }
 
 // modified_gate_call_expr
 #[cycle(productions)]
-fn mods(kinds: &[u16], joints: &[u64], room: &mut [u32], p: Parser, mode: u8, left: u32) -> Done
-    requires { Fit p }
-    ensures { Does (env kinds.now joints.now) (atoms.modified_gate_call_expr (counted (table_of mode) left)) (view p room.old) result.cm (view result.p room.new) }
+fn mods(input: &Input, room: &mut [u32], p: Parser, level: Level) -> (Parser, Completed)
+    ensures { Does (tokens input.now) (atoms.modified_gate_call_expr (counted (table_of level.mode) level.left)) (view p room.old) result.1 (view result.0 room.new) }
 {
-    let s = p.start(room);
-    let m = s.m;
-    let mut q = s.p;
+    let (mut q, m) = p.start(room);
     loop {
-        let l = q.current(kinds, joints);
-        let q1 = l.p;
-        let kw = l.kind;
+        let (p, kw) = q.current(input);
         match kw {
             k::INV_KW => {
-                q = atom::inv_modifier(kinds, joints, room, q1);
+                q = atom::inv_modifier(input, room, p);
             }
             k::POW_KW => {
-                q = ctl(
-                    kinds,
-                    joints,
-                    room,
-                    q1,
-                    mode,
-                    left,
-                    k::POW_KW,
-                    k::POW_MODIFIER,
-                );
+                q = ctl(input, room, p, level, k::POW_KW, k::POW_MODIFIER);
             }
             k::CTRL_KW => {
-                q = ctl(
-                    kinds,
-                    joints,
-                    room,
-                    q1,
-                    mode,
-                    left,
-                    k::CTRL_KW,
-                    k::CTRL_MODIFIER,
-                );
+                q = ctl(input, room, p, level, k::CTRL_KW, k::CTRL_MODIFIER);
             }
             k::NEGCTRL_KW => {
-                q = ctl(
-                    kinds,
-                    joints,
-                    room,
-                    q1,
-                    mode,
-                    left,
-                    k::NEGCTRL_KW,
-                    k::NEG_CTRL_MODIFIER,
-                );
+                q = ctl(input, room, p, level, k::NEGCTRL_KW, k::NEG_CTRL_MODIFIER);
             }
             _ => {
-                if q1.at(kinds, joints, k::GPHASE_KW) {
-                    let d = gph(kinds, joints, room, q1, mode, left);
-                    let q2 = d.p;
-                    return q2.complete(room, m, k::MODIFIED_GATE_CALL_EXPR);
+                if p.at(input, k::GPHASE_KW) {
+                    let (p, _) = gph(input, room, p, level);
+                    return p.complete(room, m, k::MODIFIED_GATE_CALL_EXPR);
                 }
-                let d = gate(kinds, joints, room, q1, mode, left);
-                let q2 = d.p;
-                return q2.complete(room, m, k::MODIFIED_GATE_CALL_EXPR);
+                let (p, _) = gate(input, room, p, level);
+                return p.complete(room, m, k::MODIFIED_GATE_CALL_EXPR);
             }
         }
     }
@@ -413,320 +321,245 @@ fn mods(kinds: &[u16], joints: &[u64], room: &mut [u32], p: Parser, mode: u8, le
 
 // the modifiers `pow`, `ctrl` and `negctrl` of modified_gate_call_expr
 #[cycle(productions)]
-fn ctl(
-    kinds: &[u16],
-    joints: &[u64],
-    room: &mut [u32],
-    p: Parser,
-    mode: u8,
-    left: u32,
-    kw: u16,
-    node: u16,
-) -> Parser
-    requires { Fit p }
-    ensures { Does (env kinds.now joints.now) (atoms.modifier (counted (table_of mode) left) kw node) (view p room.old) tt (view result room.new) }
+fn ctl(input: &Input, room: &mut [u32], p: Parser, level: Level, kw: u16, node: u16) -> Parser
+    ensures { Does (tokens input.now) (atoms.modifier (counted (table_of level.mode) level.left) kw node) (view p room.old) tt (view result room.new) }
 {
-    let s1 = p.start(room);
-    let p1 = s1.p;
-    let p2 = p1.bump(kinds, joints, room, kw);
-    if p2.at(kinds, joints, k::L_PAREN) {
-        let s2 = p2.start(room);
-        let p3 = s2.p;
-        let p4 = grammar::expected(kinds, joints, room, p3, k::L_PAREN);
-        let e = expr_bp(kinds, joints, room, p4, mode, left, Mark::Fresh, false, 1);
-        let p5 = e.p;
-        let p6 = grammar::expected(kinds, joints, room, p5, k::R_PAREN);
-        let p7 = grammar::completed(room, p6, s2.m, k::PAREN_EXPR);
-        return grammar::close(kinds, joints, room, p7, k::AT, s1.m, node);
+    let (p, m) = p.start(room);
+    let p = p.bump(input, room, kw);
+    if p.at(input, k::L_PAREN) {
+        let (p, m1) = p.start(room);
+        let p = grammar::expected(input, room, p, k::L_PAREN);
+        let (p, _) = expr_bp(input, room, p, level, None, false, 1);
+        let p = grammar::expected(input, room, p, k::R_PAREN);
+        let p = grammar::completed(room, p, m1, k::PAREN_EXPR);
+        return grammar::close(input, room, p, k::AT, m, node);
     }
-    let p10 = atom::no_argument(room, p2, kw);
-    grammar::close(kinds, joints, room, p10, k::AT, s1.m, node)
+    let p = atom::no_argument(room, p, kw);
+    grammar::close(input, room, p, k::AT, m, node)
 }
 
 // gate_call_expr
 #[cycle(productions)]
-fn gate(kinds: &[u16], joints: &[u64], room: &mut [u32], p: Parser, mode: u8, left: u32) -> Done
-    requires { Fit p }
-    ensures { Does (env kinds.now joints.now) (atoms.gate_call_expr (counted (table_of mode) left)) (view p room.old) result.cm (view result.p room.new) }
+fn gate(input: &Input, room: &mut [u32], p: Parser, level: Level) -> (Parser, Completed)
+    ensures { Does (tokens input.now) (atoms.gate_call_expr (counted (table_of level.mode) level.left)) (view p room.old) result.1 (view result.0 room.new) }
 {
-    let s = p.start(room);
-    let p1 = s.p;
-    let i = atom::identifier(kinds, joints, room, p1);
-    let p2 = i.p;
-    if p2.at(kinds, joints, k::L_PAREN) {
-        let p3 = args(kinds, joints, room, p2, mode, left);
-        let p4 = list(
-            kinds,
-            joints,
-            room,
-            p3,
-            mode,
-            left,
-            DefFlavor::GateCallQubits,
-        );
-        return p4.complete(room, s.m, k::GATE_CALL_EXPR);
+    let (p, m) = p.start(room);
+    let (p, _) = atom::identifier(input, room, p);
+    if p.at(input, k::L_PAREN) {
+        let p = args(input, room, p, level);
+        let p = list(input, room, p, level, DefFlavor::GateCallQubits);
+        return p.complete(room, m, k::GATE_CALL_EXPR);
     }
-    let p5 = list(
-        kinds,
-        joints,
-        room,
-        p2,
-        mode,
-        left,
-        DefFlavor::GateCallQubits,
-    );
-    p5.complete(room, s.m, k::GATE_CALL_EXPR)
+    let p = list(input, room, p, level, DefFlavor::GateCallQubits);
+    p.complete(room, m, k::GATE_CALL_EXPR)
 }
 
 // measure_expression
 #[cycle(productions)]
-fn meas(kinds: &[u16], joints: &[u64], room: &mut [u32], p: Parser, mode: u8, left: u32) -> Done
-    requires { Fit p }
-    ensures { Does (env kinds.now joints.now) (atoms.measure_expression (counted (table_of mode) left)) (view p room.old) result.cm (view result.p room.new) }
+fn meas(input: &Input, room: &mut [u32], p: Parser, level: Level) -> (Parser, Completed)
+    ensures { Does (tokens input.now) (atoms.measure_expression (counted (table_of level.mode) level.left)) (view p room.old) result.1 (view result.0 room.new) }
 {
-    let s = p.start(room);
-    let p1 = s.p;
-    let p2 = p1.bump(kinds, joints, room, k::MEASURE_KW);
-    let l = p2.current(kinds, joints);
-    let p3 = l.p;
-    if Fixed::QubitFirst.has(l.kind) {
-        let s1 = p3.start(room);
-        let p4 = s1.p;
-        let x = qarg(kinds, joints, room, p4, mode, left, s1.m);
-        let p5 = x.p;
-        return p5.complete(room, s.m, k::MEASURE_EXPRESSION);
+    let (p, m) = p.start(room);
+    let p = p.bump(input, room, k::MEASURE_KW);
+    let (p, here) = p.current(input);
+    if Fixed::QubitFirst.has(here) {
+        let (p, m1) = p.start(room);
+        let (p, _) = qarg(input, room, p, level, m1);
+        return p.complete(room, m, k::MEASURE_EXPRESSION);
     }
-    let p6 = p3.error(room, say::EXPECTING_QUBIT_S_TO_MEASURE, 0);
-    p6.complete(room, s.m, k::MEASURE_EXPRESSION)
+    let p = p.error(room, say::EXPECTING_QUBIT_S_TO_MEASURE, 0);
+    p.complete(room, m, k::MEASURE_EXPRESSION)
 }
 
 // tuple_expr
 #[cycle(productions)]
-fn tup(kinds: &[u16], joints: &[u64], room: &mut [u32], p: Parser, mode: u8, left: u32) -> Done
-    requires { Fit p }
-    ensures { Does (env kinds.now joints.now) (atoms.tuple_expr (counted (table_of mode) left)) (view p room.old) result.cm (view result.p room.new) }
+fn tup(input: &Input, room: &mut [u32], p: Parser, level: Level) -> (Parser, Completed)
+    ensures { Does (tokens input.now) (atoms.tuple_expr (counted (table_of level.mode) level.left)) (view p room.old) result.1 (view result.0 room.new) }
 {
-    let p1 = p.must(kinds, joints, room, k::L_PAREN);
-    let s = p1.start(room);
-    let p2 = s.p;
-    let m = s.m;
-    let p3 = grammar::expected(kinds, joints, room, p2, k::L_PAREN);
-    let c = atom::tuple_comma(kinds, joints, room, p3);
-    let mut q = c.p;
-    let mut comma = c.yes;
+    let p = p.must(input, room, k::L_PAREN);
+    let (p, m) = p.start(room);
+    let p = grammar::expected(input, room, p, k::L_PAREN);
+    let (mut q, mut comma) = atom::tuple_comma(input, room, p);
     let mut saw = false;
-    while q.goes_on(kinds, joints, k::R_PAREN) {
+    while q.goes_on(input, k::R_PAREN) {
         saw = true;
-        let e = expr_bp(kinds, joints, room, q, mode, left, Mark::Fresh, false, 1);
-        let q1 = e.p;
-        let g = e.got;
-        let Got::Is(_, _) = g else {
-            return atom::tuple_end(kinds, joints, room, q1, m, saw, comma);
+        let (p, g) = expr_bp(input, room, q, level, None, false, 1);
+        let Some(_) = g else {
+            return atom::tuple_end(input, room, p, m, saw, comma);
         };
-        let n = atom::tuple_next(kinds, joints, room, q1, comma);
-        q = n.p;
-        comma = n.yes;
+        let (p, comma1) = atom::tuple_next(input, room, p, comma);
+        q = p;
+        comma = comma1;
     }
-    atom::tuple_end(kinds, joints, room, q, m, saw, comma)
+    atom::tuple_end(input, room, q, m, saw, comma)
 }
 
 // array_expr
 #[cycle(productions)]
-fn arr(kinds: &[u16], joints: &[u64], room: &mut [u32], p: Parser, mode: u8, left: u32) -> Done
-    requires { Fit p }
-    ensures { Does (env kinds.now joints.now) (atoms.array_expr (counted (table_of mode) left)) (view p room.old) result.cm (view result.p room.new) }
+fn arr(input: &Input, room: &mut [u32], p: Parser, level: Level) -> (Parser, Completed)
+    ensures { Does (tokens input.now) (atoms.array_expr (counted (table_of level.mode) level.left)) (view p room.old) result.1 (view result.0 room.new) }
 {
-    let p1 = p.must(kinds, joints, room, k::L_BRACK);
-    let s = p1.start(room);
-    let p2 = s.p;
-    let m = s.m;
-    let mut q = p2.bump(kinds, joints, room, k::L_BRACK);
+    let p = p.must(input, room, k::L_BRACK);
+    let (p, m) = p.start(room);
+    let mut q = p.bump(input, room, k::L_BRACK);
     let mut first = true;
     let mut semi = false;
-    while q.goes_on(kinds, joints, k::R_BRACK) {
-        let e = expr_bp(kinds, joints, room, q, mode, left, Mark::Fresh, false, 1);
-        let q1 = e.p;
-        let g = e.got;
-        let Got::Is(_, _) = g else {
-            return atom::array_end(kinds, joints, room, q1, m);
+    while q.goes_on(input, k::R_BRACK) {
+        let (p, g) = expr_bp(input, room, q, level, None, false, 1);
+        let Some(_) = g else {
+            return atom::array_end(input, room, p, m);
         };
-        let n = atom::array_next(kinds, joints, room, q1, first, semi);
-        let q2 = n.p;
-        let next = n.next;
+        let (p, next) = atom::array_next(input, room, p, first, semi);
         match next {
             Next::Semi => {
-                q = q2;
+                q = p;
                 first = false;
                 semi = true;
             }
             Next::Comma => {
-                q = q2;
+                q = p;
                 first = false;
             }
             Next::Stop => {
-                return atom::array_end(kinds, joints, room, q2, m);
+                return atom::array_end(input, room, p, m);
             }
         }
     }
-    atom::array_end(kinds, joints, room, q, m)
+    atom::array_end(input, room, q, m)
 }
 
 // try_block_expr
 #[cycle(productions)]
-fn body(kinds: &[u16], joints: &[u64], room: &mut [u32], p: Parser, mode: u8, left: u32) -> Parser
-    requires { Fit p }
-    ensures { Does (env kinds.now joints.now) (atoms.try_block_expr (counted (table_of mode) left)) (view p room.old) tt (view result room.new) }
+fn body(input: &Input, room: &mut [u32], p: Parser, level: Level) -> Parser
+    ensures { Does (tokens input.now) (atoms.try_block_expr (counted (table_of level.mode) level.left)) (view p room.old) tt (view result room.new) }
 {
-    if p.at(kinds, joints, k::L_CURLY) {
-        let d = blk(kinds, joints, room, p, mode, left);
-        return d.p;
+    if p.at(input, k::L_CURLY) {
+        let (p, _) = blk(input, room, p, level);
+        return p;
     }
     p.error(room, say::EXPECTED_A_BLOCK, 0)
 }
 
 // block_expr
 #[cycle(productions)]
-fn blk(kinds: &[u16], joints: &[u64], room: &mut [u32], p: Parser, mode: u8, left: u32) -> Done
-    requires { Fit p }
-    ensures { Does (env kinds.now joints.now) (atoms.block_expr (counted (table_of mode) left)) (view p room.old) result.cm (view result.p room.new) }
+fn blk(input: &Input, room: &mut [u32], p: Parser, level: Level) -> (Parser, Completed)
+    ensures { Does (tokens input.now) (atoms.block_expr (counted (table_of level.mode) level.left)) (view p room.old) result.1 (view result.0 room.new) }
 {
-    let p1 = p.must(kinds, joints, room, k::L_CURLY);
-    let s = p1.start(room);
-    let p2 = s.p;
-    let p3 = p2.bump(kinds, joints, room, k::L_CURLY);
-    let p4 = sts(kinds, joints, room, p3, mode, left);
-    let p5 = grammar::expected(kinds, joints, room, p4, k::R_CURLY);
-    p5.complete(room, s.m, k::BLOCK_EXPR)
+    let p = p.must(input, room, k::L_CURLY);
+    let (p, m) = p.start(room);
+    let p = p.bump(input, room, k::L_CURLY);
+    let p = sts(input, room, p, level);
+    let p = grammar::expected(input, room, p, k::R_CURLY);
+    p.complete(room, m, k::BLOCK_EXPR)
 }
 
 // return_expr
 #[cycle(productions)]
-fn ret(kinds: &[u16], joints: &[u64], room: &mut [u32], p: Parser, mode: u8, left: u32) -> Done
-    requires { Fit p }
-    ensures { Does (env kinds.now joints.now) (atoms.return_expr (counted (table_of mode) left)) (view p room.old) result.cm (view result.p room.new) }
+fn ret(input: &Input, room: &mut [u32], p: Parser, level: Level) -> (Parser, Completed)
+    ensures { Does (tokens input.now) (atoms.return_expr (counted (table_of level.mode) level.left)) (view p room.old) result.1 (view result.0 room.new) }
 {
-    let p1 = p.must(kinds, joints, room, k::RETURN_KW);
-    let s = p1.start(room);
-    let p2 = s.p;
-    let p3 = p2.bump_any(kinds, joints, room);
-    let t = p3.at_ts(kinds, joints, Fixed::ExprFirst);
-    let p4 = t.p;
-    if t.yes {
-        let e = expr_bp(kinds, joints, room, p4, mode, left, Mark::Fresh, false, 1);
-        let p5 = e.p;
-        return p5.complete(room, s.m, k::RETURN_EXPR);
+    let p = p.must(input, room, k::RETURN_KW);
+    let (p, m) = p.start(room);
+    let p = p.bump_any(input, room);
+    let (p, begins) = p.at_ts(input, Fixed::ExprFirst);
+    if begins {
+        let (p, _) = expr_bp(input, room, p, level, None, false, 1);
+        return p.complete(room, m, k::RETURN_EXPR);
     }
-    p4.complete(room, s.m, k::RETURN_EXPR)
+    p.complete(room, m, k::RETURN_EXPR)
 }
 
 // box_expr
 #[cycle(productions)]
-fn bx(kinds: &[u16], joints: &[u64], room: &mut [u32], p: Parser, mode: u8, left: u32) -> Done
-    requires { Fit p }
-    ensures { Does (env kinds.now joints.now) (atoms.box_expr (counted (table_of mode) left)) (view p room.old) result.cm (view result.p room.new) }
+fn bx(input: &Input, room: &mut [u32], p: Parser, level: Level) -> (Parser, Completed)
+    ensures { Does (tokens input.now) (atoms.box_expr (counted (table_of level.mode) level.left)) (view p room.old) result.1 (view result.0 room.new) }
 {
-    let p1 = p.must(kinds, joints, room, k::BOX_KW);
-    let s = p1.start(room);
-    let p2 = s.p;
-    let p3 = p2.bump(kinds, joints, room, k::BOX_KW);
-    let t = p3.at_ts(kinds, joints, Fixed::ExprFirst);
-    let p4 = t.p;
-    if t.yes {
-        let e = expr_bp(kinds, joints, room, p4, mode, left, Mark::Fresh, false, 1);
-        let p5 = e.p;
-        return p5.complete(room, s.m, k::BOX_EXPR);
+    let p = p.must(input, room, k::BOX_KW);
+    let (p, m) = p.start(room);
+    let p = p.bump(input, room, k::BOX_KW);
+    let (p, begins) = p.at_ts(input, Fixed::ExprFirst);
+    if begins {
+        let (p, _) = expr_bp(input, room, p, level, None, false, 1);
+        return p.complete(room, m, k::BOX_EXPR);
     }
-    p4.complete(room, s.m, k::BOX_EXPR)
+    p.complete(room, m, k::BOX_EXPR)
 }
 
 // ---- src/grammar/expressions.rs
 
 // range_expr
 #[cycle(productions)]
-fn range(kinds: &[u16], joints: &[u64], room: &mut [u32], p: Parser, mode: u8, left: u32) -> Parser
-    requires { Fit p }
-    ensures { Does (env kinds.now joints.now) (E.range_expr (counted (table_of mode) left)) (view p room.old) tt (view result room.new) }
+fn range(input: &Input, room: &mut [u32], p: Parser, level: Level) -> Parser
+    ensures { Does (tokens input.now) (E.range_expr (counted (table_of level.mode) level.left)) (view p room.old) tt (view result room.new) }
 {
-    let s = p.start(room);
-    let p1 = s.p;
-    let p2 = p1.must(kinds, joints, room, k::L_BRACK);
-    let p3 = p2.bump(kinds, joints, room, k::L_BRACK);
-    let e = expr_bp(kinds, joints, room, p3, mode, left, Mark::Fresh, false, 1);
-    let p4 = e.p;
-    if p4.at(kinds, joints, k::COLON) {
-        let p5 = p4.bump(kinds, joints, room, k::COLON);
-        let e2 = expr_bp(kinds, joints, room, p5, mode, left, Mark::Fresh, false, 1);
-        let p6 = e2.p;
-        if p6.at(kinds, joints, k::COLON) {
-            let p7 = p6.bump(kinds, joints, room, k::COLON);
-            let e3 = expr_bp(kinds, joints, room, p7, mode, left, Mark::Fresh, false, 1);
-            let p8 = e3.p;
-            return grammar::close(kinds, joints, room, p8, k::R_BRACK, s.m, k::RANGE_EXPR);
+    let (p, m) = p.start(room);
+    let p = p.must(input, room, k::L_BRACK);
+    let p = p.bump(input, room, k::L_BRACK);
+    let (p, _) = expr_bp(input, room, p, level, None, false, 1);
+    if p.at(input, k::COLON) {
+        let p = p.bump(input, room, k::COLON);
+        let (p, _) = expr_bp(input, room, p, level, None, false, 1);
+        if p.at(input, k::COLON) {
+            let p = p.bump(input, room, k::COLON);
+            let (p, _) = expr_bp(input, room, p, level, None, false, 1);
+            return grammar::close(input, room, p, k::R_BRACK, m, k::RANGE_EXPR);
         }
-        return grammar::close(kinds, joints, room, p6, k::R_BRACK, s.m, k::RANGE_EXPR);
+        return grammar::close(input, room, p, k::R_BRACK, m, k::RANGE_EXPR);
     }
-    let p9 = p4.error(room, say::EXPECTING_COLON_IN_RANGE_EXPRESSION, 0);
-    grammar::close(kinds, joints, room, p9, k::R_BRACK, s.m, k::RANGE_EXPR)
+    let p = p.error(room, say::EXPECTING_COLON_IN_RANGE_EXPRESSION, 0);
+    grammar::close(input, room, p, k::R_BRACK, m, k::RANGE_EXPR)
 }
 
 // stmt, with let_stmt
 #[cycle(productions)]
-fn stmt(kinds: &[u16], joints: &[u64], room: &mut [u32], p: Parser, mode: u8, left: u32) -> Parser
-    requires { Fit p }
-    ensures { Does (env kinds.now joints.now) (counted (table_of mode) left).stmt (view p room.old) tt (view result room.new) }
+fn stmt(input: &Input, room: &mut [u32], p: Parser, level: Level) -> Parser
+    ensures { Does (tokens input.now) (counted (table_of level.mode) level.left).stmt (view p room.old) tt (view result room.new) }
 {
-    if left == 0 {
+    if level.left == 0 {
         return p.stop(room, Stop::Deep);
     }
-    let d = left - 1;
-    let t = p.eat(kinds, joints, room, k::SEMICOLON);
-    let p1 = t.p;
-    if t.yes {
-        return p1;
+    let d = Level {
+        left: level.left - 1,
+        ..level
+    };
+    let (p, eaten) = p.eat(input, room, k::SEMICOLON);
+    if eaten {
+        return p;
     }
-    if p1.at(kinds, joints, k::LET_KW) {
-        let s = p1.start(room);
-        let p2 = s.p;
-        let p3 = p2.bump(kinds, joints, room, k::LET_KW);
-        let p4 = grammar::expected(kinds, joints, room, p3, k::IDENT);
-        let p5 = grammar::expected(kinds, joints, room, p4, k::EQ);
-        let e = expr_bp(kinds, joints, room, p5, mode, d, Mark::Fresh, false, 1);
-        let p6 = e.p;
-        return grammar::close(kinds, joints, room, p6, k::SEMICOLON, s.m, k::LET_STMT);
+    if p.at(input, k::LET_KW) {
+        let (p, m) = p.start(room);
+        let p = p.bump(input, room, k::LET_KW);
+        let p = grammar::expected(input, room, p, k::IDENT);
+        let p = grammar::expected(input, room, p, k::EQ);
+        let (p, _) = expr_bp(input, room, p, d, None, false, 1);
+        return grammar::close(input, room, p, k::SEMICOLON, m, k::LET_STMT);
     }
-    let s = p1.start(room);
-    let p8 = s.p;
-    let o = opt(kinds, joints, room, p8, mode, d, s.m);
-    let p9 = o.p;
-    let offer = o.offer;
+    let (p, m1) = p.start(room);
+    let (p, offer) = opt(input, room, p, d, m1);
     match offer {
-        Offer::Taken => p9,
-        Offer::Back(m) => {
-            if p9.at(kinds, joints, k::PRAGMA) {
-                let p10 = p9.bump_any(kinds, joints, room);
-                return grammar::completed(room, p10, m, k::PRAGMA_STATEMENT);
+        Ok(()) => p,
+        Err(m) => {
+            if p.at(input, k::PRAGMA) {
+                let p = p.bump_any(input, room);
+                return grammar::completed(room, p, m, k::PRAGMA_STATEMENT);
             }
-            if p9.at(kinds, joints, k::ANNOTATION) {
-                let p11 = p9.bump_any(kinds, joints, room);
-                return grammar::completed(room, p11, m, k::ANNOTATION_STATEMENT);
+            if p.at(input, k::ANNOTATION) {
+                let p = p.bump_any(input, room);
+                return grammar::completed(room, p, m, k::ANNOTATION_STATEMENT);
             }
-            let c = expressions::stmt_lacks_expr(kinds, joints, p9);
-            let p12 = c.p;
-            if c.yes {
-                let p13 = p12.err_and_bump(
-                    kinds,
-                    joints,
+            let (p, lacks) = expressions::stmt_lacks_expr(input, p);
+            if lacks {
+                let p = p.err_and_bump(
+                    input,
                     room,
                     say::STMT_EXPECTED_EXPRESSION_TYPE_DECLARATION_OR_LET,
                 );
-                return p13.abandon(room, m);
+                return p.abandon(room, m);
             }
-            let e = expr_bp(kinds, joints, room, p12, mode, d, Mark::Given(m), true, 1);
-            let p14 = e.p;
-            let g = e.got;
+            let (p, g) = expr_bp(input, room, p, d, Some(m), true, 1);
             match g {
-                Got::Nothing => p14,
-                Got::Is(cm, block) => expressions::stmt_end(kinds, joints, room, p14, cm, block),
+                None => p,
+                Some((cm, block)) => expressions::stmt_end(input, room, p, cm, block),
             }
         }
     }
@@ -734,13 +567,12 @@ fn stmt(kinds: &[u16], joints: &[u64], room: &mut [u32], p: Parser, mode: u8, le
 
 // expr_block_contents
 #[cycle(productions)]
-fn sts(kinds: &[u16], joints: &[u64], room: &mut [u32], p: Parser, mode: u8, left: u32) -> Parser
-    requires { Fit p }
-    ensures { Does (env kinds.now joints.now) (E.expr_block_contents (counted (table_of mode) left)) (view p room.old) tt (view result room.new) }
+fn sts(input: &Input, room: &mut [u32], p: Parser, level: Level) -> Parser
+    ensures { Does (tokens input.now) (E.expr_block_contents (counted (table_of level.mode) level.left)) (view p room.old) tt (view result room.new) }
 {
     let mut q = p;
-    while q.goes_on(kinds, joints, k::R_CURLY) {
-        q = stmt(kinds, joints, room, q, mode, left);
+    while q.goes_on(input, k::R_CURLY) {
+        q = stmt(input, room, q, level);
     }
     q
 }
@@ -748,99 +580,61 @@ fn sts(kinds: &[u16], joints: &[u64], room: &mut [u32], p: Parser, mode: u8, lef
 // expr_bp
 #[cycle(productions)]
 pub fn expr_bp(
-    kinds: &[u16],
-    joints: &[u64],
+    input: &Input,
     room: &mut [u32],
     p: Parser,
-    mode: u8,
-    left: u32,
-    given: Mark,
+    level: Level,
+    given: Option<u32>,
     prefer: bool,
     bp: u8,
-) -> Parsed
-    requires fit { Fit p }
+) -> (Parser, Option<(Completed, bool)>)
     requires le_bp { 1 ≤ bp }
-    ensures { Does (env kinds.now joints.now) ((counted (table_of mode) left).expr_bp given prefer bp) (view p room.old) result.got (view result.p room.new) }
+    ensures { Does (tokens input.now) ((counted (table_of level.mode) level.left).expr_bp given prefer bp) (view p room.old) result.1 (view result.0 room.new) }
 {
-    if left == 0 {
+    if level.left == 0 {
         let q = p.stop(room, Stop::Deep);
-        return Parsed {
-            p: q,
-            got: Got::Nothing,
-        };
+        return (q, None);
     }
-    let d = left - 1;
-    let s = expressions::marker(room, p, given);
-    let p1 = s.p;
-    let m = s.m;
-    let b = expressions::lacks_expr(kinds, joints, p1);
-    let p2 = b.p;
-    if b.yes {
-        let p3 = p2.err_recover(
-            kinds,
-            joints,
+    let d = Level {
+        left: level.left - 1,
+        ..level
+    };
+    let (p, m) = expressions::marker(room, p, given);
+    let (p, lacks) = expressions::lacks_expr(input, p);
+    if lacks {
+        let p = p.err_recover(
+            input,
             room,
             say::EXPR_BP_EXPECTED_EXPRESSION,
             Fixed::ExprRecoverySet,
         );
-        let p4 = p3.abandon(room, m);
-        return Parsed {
-            p: p4,
-            got: Got::Nothing,
-        };
+        let p = p.abandon(room, m);
+        return (p, None);
     }
-    let e = lhs(kinds, joints, room, p2, mode, d, prefer);
-    let p5 = e.p;
-    let g = e.got;
+    let (p, g) = lhs(input, room, p, d, prefer);
     match g {
-        Got::Nothing => {
-            let p6 = p5.abandon(room, m);
-            return Parsed {
-                p: p6,
-                got: Got::Nothing,
-            };
+        None => {
+            let p = p.abandon(room, m);
+            return (p, None);
         }
-        Got::Is(first, block) => {
-            let x = p5.extend_to(room, first, m);
-            let mut q = x.p;
-            let mut cm = x.cm;
+        Some((first, block)) => {
+            let (mut q, mut cm) = p.extend_to(room, first, m);
             if expressions::both(prefer, block) {
-                return Parsed {
-                    p: q,
-                    got: Got::Is(cm, true),
-                };
+                return (q, Some((cm, true)));
             }
             loop {
-                let o = operators::current_op(kinds, joints, q, mode);
-                let op = o.op;
-                q = o.p;
+                let (p, op) = operators::current_op(input, q, d.mode);
+                q = p;
                 if op.power < bp {
-                    return Parsed {
-                        p: q,
-                        got: Got::Is(cm, false),
-                    };
+                    return (q, Some((cm, false)));
                 }
                 let before = cm.kind;
-                let n = q.precede(room, cm);
-                let q1 = n.p;
-                let q2 = q1.bump(kinds, joints, room, op.kind);
-                let r = expr_bp(
-                    kinds,
-                    joints,
-                    room,
-                    q2,
-                    mode,
-                    d,
-                    Mark::Fresh,
-                    false,
-                    op.next,
-                );
-                let q3 = r.p;
-                let c = expressions::close_op(
-                    kinds, joints, room, q3, prefer, before, op.kind, n.m,
-                );
-                q = c.p;
-                cm = c.cm;
+                let (p, m1) = q.precede(room, cm);
+                let p = p.bump(input, room, op.kind);
+                let (p, _) = expr_bp(input, room, p, d, None, false, op.next);
+                let (p, cm1) = expressions::close_op(input, room, p, prefer, before, op.kind, m1);
+                q = p;
+                cm = cm1;
             }
         }
     }
@@ -849,54 +643,28 @@ pub fn expr_bp(
 // lhs: a prefix operator and its operand, or an atom and what follows it
 #[cycle(productions)]
 fn lhs(
-    kinds: &[u16],
-    joints: &[u64],
+    input: &Input,
     room: &mut [u32],
     p: Parser,
-    mode: u8,
-    left: u32,
+    level: Level,
     prefer: bool,
-) -> Parsed
-    requires { Fit p }
-    ensures { Does (env kinds.now joints.now) (E.lhs (counted (table_of mode) left) (later (counted (table_of mode) left)) prefer) (view p room.old) result.got (view result.p room.new) }
+) -> (Parser, Option<(Completed, bool)>)
+    ensures { Does (tokens input.now) (E.lhs (counted (table_of level.mode) level.left) (later (counted (table_of level.mode) level.left)) prefer) (view p room.old) result.1 (view result.0 room.new) }
 {
-    let l = p.current(kinds, joints);
-    let p1 = l.p;
-    if Fixed::PrefixOps.has(l.kind) {
-        let s = p1.start(room);
-        let p2 = s.p;
-        let p3 = p2.bump_any(kinds, joints, room);
-        let e = expr_bp(
-            kinds,
-            joints,
-            room,
-            p3,
-            mode,
-            left,
-            Mark::Fresh,
-            prefer,
-            255,
-        );
-        let p4 = e.p;
-        let d = p4.complete(room, s.m, k::PREFIX_EXPR);
-        let p5 = d.p;
-        let cm = d.cm;
-        return Parsed {
-            p: p5,
-            got: Got::Is(cm, false),
-        };
+    let (p, here) = p.current(input);
+    if Fixed::PrefixOps.has(here) {
+        let (p, m) = p.start(room);
+        let p = p.bump_any(input, room);
+        let (p, _) = expr_bp(input, room, p, level, None, prefer, 255);
+        let (p, cm) = p.complete(room, m, k::PREFIX_EXPR);
+        return (p, Some((cm, false)));
     }
-    let a = atom(kinds, joints, room, p1, mode, left);
-    let p6 = a.p;
-    let g = a.got;
+    let (p, g) = atom(input, room, p, level);
     match g {
-        Got::Nothing => Parsed {
-            p: p6,
-            got: Got::Nothing,
-        },
-        Got::Is(cm, block) => {
+        None => (p, None),
+        Some((cm, block)) => {
             let calls = expressions::not_both(prefer, block);
-            post(kinds, joints, room, p6, mode, left, cm, block, calls)
+            post(input, room, p, level, cm, block, calls)
         }
     }
 }
@@ -904,303 +672,257 @@ fn lhs(
 // postfix_expr
 #[cycle(productions)]
 fn post(
-    kinds: &[u16],
-    joints: &[u64],
+    input: &Input,
     room: &mut [u32],
     p: Parser,
-    mode: u8,
-    left: u32,
+    level: Level,
     first: Completed,
     block: bool,
     allow: bool,
-) -> Parsed
-    requires { Fit p }
-    ensures { Does (env kinds.now joints.now) (E.postfix_expr (counted (table_of mode) left) (later (counted (table_of mode) left)) first block allow) (view p room.old) result.got (view result.p room.new) }
+) -> (Parser, Option<(Completed, bool)>)
+    ensures { Does (tokens input.now) (E.postfix_expr (counted (table_of level.mode) level.left) (later (counted (table_of level.mode) level.left)) first block allow) (view p room.old) result.1 (view result.0 room.new) }
 {
     let mut q = p;
     let mut cm = first;
     let mut blocky = block;
     let mut calls = allow;
     loop {
-        let l = q.current(kinds, joints);
-        q = l.p;
-        if calls {
-            if l.kind == k::L_PAREN {
-                let c = call(kinds, joints, room, q, mode, left, cm);
-                q = c.p;
-                cm = c.cm;
-                blocky = false;
-                calls = true;
-                continue;
-            }
-            if l.kind == k::L_BRACK {
-                let c = idx(kinds, joints, room, q, mode, left, cm);
-                q = c.p;
-                cm = c.cm;
-                blocky = false;
-                calls = true;
-                continue;
-            }
+        let (p, here) = q.current(input);
+        q = p;
+        if !calls {
+            return (q, Some((cm, blocky)));
         }
-        return Parsed {
-            p: q,
-            got: Got::Is(cm, blocky),
-        };
+        if here == k::L_PAREN {
+            let (p, cm1) = call(input, room, q, level, cm);
+            q = p;
+            cm = cm1;
+            blocky = false;
+            calls = true;
+            continue;
+        }
+        if here == k::L_BRACK {
+            let (p, cm2) = idx(input, room, q, level, cm);
+            q = p;
+            cm = cm2;
+            blocky = false;
+            calls = true;
+            continue;
+        }
+        return (q, Some((cm, blocky)));
     }
 }
 
 // postfix_expr at `[`: indexed_identifier, or index_expr with or without an error
 #[cycle(productions)]
 fn idx(
-    kinds: &[u16],
-    joints: &[u64],
+    input: &Input,
     room: &mut [u32],
     p: Parser,
-    mode: u8,
-    left: u32,
+    level: Level,
     first: Completed,
-) -> Done
-    requires { Fit p }
-    ensures { Does (env kinds.now joints.now) (E.indexed (counted (table_of mode) left) first) (view p room.old) result.cm (view result.p room.new) }
+) -> (Parser, Completed)
+    ensures { Does (tokens input.now) (E.indexed (counted (table_of level.mode) level.left) first) (view p room.old) result.1 (view result.0 room.new) }
 {
     if first.kind == k::IDENTIFIER {
-        return ids(kinds, joints, room, p, mode, left, first);
+        return ids(input, room, p, level, first);
     }
-    let p1 = expressions::unindexed(room, p, first.kind);
-    let p2 = p1.must(kinds, joints, room, k::L_BRACK);
-    let s = p2.precede(room, first);
-    let p3 = s.p;
-    let p4 = subs(kinds, joints, room, p3, mode, left);
-    p4.complete(room, s.m, k::INDEX_EXPR)
+    let p = expressions::unindexed(room, p, first.kind);
+    let p = p.must(input, room, k::L_BRACK);
+    let (p, m) = p.precede(room, first);
+    let p = subs(input, room, p, level);
+    p.complete(room, m, k::INDEX_EXPR)
 }
 
 // call_expr
 #[cycle(productions)]
 fn call(
-    kinds: &[u16],
-    joints: &[u64],
+    input: &Input,
     room: &mut [u32],
     p: Parser,
-    mode: u8,
-    left: u32,
+    level: Level,
     first: Completed,
-) -> Done
-    requires { Fit p }
-    ensures { Does (env kinds.now joints.now) (E.call_expr (counted (table_of mode) left) (later (counted (table_of mode) left)) first) (view p room.old) result.cm (view result.p room.new) }
+) -> (Parser, Completed)
+    ensures { Does (tokens input.now) (E.call_expr (counted (table_of level.mode) level.left) (later (counted (table_of level.mode) level.left)) first) (view p room.old) result.1 (view result.0 room.new) }
 {
-    let p1 = p.must(kinds, joints, room, k::L_PAREN);
-    let s = p1.precede(room, first);
-    let p2 = s.p;
-    let p3 = args(kinds, joints, room, p2, mode, left);
-    let l = p3.current(kinds, joints);
-    let p4 = l.p;
-    if Fixed::QubitFirst.has(l.kind) {
-        let p5 = list(
-            kinds,
-            joints,
-            room,
-            p4,
-            mode,
-            left,
-            DefFlavor::GateCallQubits,
-        );
-        return p5.complete(room, s.m, k::GATE_CALL_EXPR);
+    let p = p.must(input, room, k::L_PAREN);
+    let (p, m) = p.precede(room, first);
+    let p = args(input, room, p, level);
+    let (p, here) = p.current(input);
+    if Fixed::QubitFirst.has(here) {
+        let p = list(input, room, p, level, DefFlavor::GateCallQubits);
+        return p.complete(room, m, k::GATE_CALL_EXPR);
     }
-    p4.complete(room, s.m, k::CALL_EXPR)
+    p.complete(room, m, k::CALL_EXPR)
 }
 
 // type_spec, with array_type_spec
 #[cycle(productions)]
-fn spec(kinds: &[u16], joints: &[u64], room: &mut [u32], p: Parser, mode: u8, left: u32) -> Parser
-    requires { Fit p }
-    ensures { Does (env kinds.now joints.now) (counted (table_of mode) left).type_spec (view p room.old) tt (view result room.new) }
+fn spec(input: &Input, room: &mut [u32], p: Parser, level: Level) -> Parser
+    ensures { Does (tokens input.now) (counted (table_of level.mode) level.left).type_spec (view p room.old) tt (view result room.new) }
 {
-    if left == 0 {
+    if level.left == 0 {
         return p.stop(room, Stop::Deep);
     }
-    let d = left - 1;
-    if p.at(kinds, joints, k::ARRAY_KW) {
-        let p1 = p.must(kinds, joints, room, k::ARRAY_KW);
-        let s = p1.start(room);
-        let p2 = s.p;
-        let m = s.m;
-        let p3 = p2.bump_any(kinds, joints, room);
-        let t = p3.expect(kinds, joints, room, k::L_BRACK);
-        let p4 = t.p;
-        let p5 = expressions::array_base(kinds, joints, room, p4);
-        let p6 = spec(kinds, joints, room, p5, mode, d);
-        let u = p6.expect(kinds, joints, room, k::COMMA);
-        let mut q = u.p;
+    let d = Level {
+        left: level.left - 1,
+        ..level
+    };
+    if p.at(input, k::ARRAY_KW) {
+        let p = p.must(input, room, k::ARRAY_KW);
+        let (p, m) = p.start(room);
+        let p = p.bump_any(input, room);
+        let (p, _) = p.expect(input, room, k::L_BRACK);
+        let p = expressions::array_base(input, room, p);
+        let p = spec(input, room, p, d);
+        let (mut q, _) = p.expect(input, room, k::COMMA);
         loop {
-            let e = expr_bp(kinds, joints, room, q, mode, d, Mark::Fresh, false, 1);
-            let q1 = e.p;
-            if q1.at(kinds, joints, k::R_BRACK) {
-                let q2 = q1.bump_any(kinds, joints, room);
-                let x = q2.complete(room, m, k::ARRAY_TYPE);
-                return x.p;
+            let (p, _) = expr_bp(input, room, q, d, None, false, 1);
+            if p.at(input, k::R_BRACK) {
+                let p = p.bump_any(input, room);
+                let (p, _) = p.complete(room, m, k::ARRAY_TYPE);
+                return p;
             }
-            let v = q1.expect(kinds, joints, room, k::COMMA);
-            q = v.p;
-            if q.is_refused() {
-                let x = q.complete(room, m, k::ARRAY_TYPE);
-                return x.p;
+            let (p, _) = p.expect(input, room, k::COMMA);
+            q = p;
+            if q.stopped() {
+                let (p, _) = q.complete(room, m, k::ARRAY_TYPE);
+                return p;
             }
         }
     }
-    scal(kinds, joints, room, p, mode, d)
+    scal(input, room, p, d)
 }
 
 // non_array_type_spec
 #[cycle(productions)]
-fn scal(kinds: &[u16], joints: &[u64], room: &mut [u32], p: Parser, mode: u8, left: u32) -> Parser
-    requires { Fit p }
-    ensures { Does (env kinds.now joints.now) (E.non_array_type_spec (counted (table_of mode) left)) (view p room.old) tt (view result room.new) }
+fn scal(input: &Input, room: &mut [u32], p: Parser, level: Level) -> Parser
+    ensures { Does (tokens input.now) (E.non_array_type_spec (counted (table_of level.mode) level.left)) (view p room.old) tt (view result room.new) }
 {
-    if p.at(kinds, joints, k::COMPLEX_TY) {
-        return cplx(kinds, joints, room, p, mode, left);
+    if p.at(input, k::COMPLEX_TY) {
+        return cplx(input, room, p, level);
     }
-    let s = p.start(room);
-    let p1 = s.p;
-    let p2 = expressions::type_name(kinds, joints, room, p1);
-    if p2.at(kinds, joints, k::L_BRACK) {
-        let p3 = width(kinds, joints, room, p2, mode, left);
-        return grammar::completed(room, p3, s.m, k::SCALAR_TYPE);
+    let (p, m) = p.start(room);
+    let p = expressions::type_name(input, room, p);
+    if p.at(input, k::L_BRACK) {
+        let p = width(input, room, p, level);
+        return grammar::completed(room, p, m, k::SCALAR_TYPE);
     }
-    grammar::completed(room, p2, s.m, k::SCALAR_TYPE)
+    grammar::completed(room, p, m, k::SCALAR_TYPE)
 }
 
 // complex_type_spec
 #[cycle(productions)]
-fn cplx(kinds: &[u16], joints: &[u64], room: &mut [u32], p: Parser, mode: u8, left: u32) -> Parser
-    requires { Fit p }
-    ensures { Does (env kinds.now joints.now) (counted (table_of mode) left).complex_type_spec (view p room.old) tt (view result room.new) }
+fn cplx(input: &Input, room: &mut [u32], p: Parser, level: Level) -> Parser
+    ensures { Does (tokens input.now) (counted (table_of level.mode) level.left).complex_type_spec (view p room.old) tt (view result room.new) }
 {
-    if left == 0 {
+    if level.left == 0 {
         return p.stop(room, Stop::Deep);
     }
-    let d = left - 1;
-    let p1 = p.must(kinds, joints, room, k::COMPLEX_TY);
-    let s = p1.start(room);
-    let p2 = s.p;
-    let p3 = p2.bump_any(kinds, joints, room);
-    if p3.at(kinds, joints, k::L_BRACK) {
-        let p4 = p3.bump(kinds, joints, room, k::L_BRACK);
-        let p5 = grammar::fail_unless_at(
-            kinds,
-            joints,
+    let d = Level {
+        left: level.left - 1,
+        ..level
+    };
+    let p = p.must(input, room, k::COMPLEX_TY);
+    let (p, m) = p.start(room);
+    let p = p.bump_any(input, room);
+    if p.at(input, k::L_BRACK) {
+        let p = p.bump(input, room, k::L_BRACK);
+        let p = grammar::fail_unless_at(
+            input,
             room,
-            p4,
+            p,
             k::FLOAT_TY,
             say::EXPECTING_FLOAT_IN_COMPLEX_DESIGNATOR,
         );
-        let p6 = scal(kinds, joints, room, p5, mode, d);
-        return grammar::close(kinds, joints, room, p6, k::R_BRACK, s.m, k::SCALAR_TYPE);
+        let p = scal(input, room, p, d);
+        return grammar::close(input, room, p, k::R_BRACK, m, k::SCALAR_TYPE);
     }
-    grammar::completed(room, p3, s.m, k::SCALAR_TYPE)
+    grammar::completed(room, p, m, k::SCALAR_TYPE)
 }
 
 // designator
 #[cycle(productions)]
-fn width(kinds: &[u16], joints: &[u64], room: &mut [u32], p: Parser, mode: u8, left: u32) -> Parser
-    requires { Fit p }
-    ensures { Does (env kinds.now joints.now) (E.designator (counted (table_of mode) left)) (view p room.old) tt (view result room.new) }
+fn width(input: &Input, room: &mut [u32], p: Parser, level: Level) -> Parser
+    ensures { Does (tokens input.now) (E.designator (counted (table_of level.mode) level.left)) (view p room.old) tt (view result room.new) }
 {
-    let p1 = p.must(kinds, joints, room, k::L_BRACK);
-    let s = p1.start(room);
-    let p2 = s.p;
-    let p3 = p2.bump(kinds, joints, room, k::L_BRACK);
-    let p4 = expressions::literal_designator(kinds, joints, room, p3);
-    let e = expr_bp(kinds, joints, room, p4, mode, left, Mark::Fresh, false, 1);
-    let p5 = e.p;
-    grammar::close(kinds, joints, room, p5, k::R_BRACK, s.m, k::DESIGNATOR)
+    let p = p.must(input, room, k::L_BRACK);
+    let (p, m) = p.start(room);
+    let p = p.bump(input, room, k::L_BRACK);
+    let p = expressions::literal_designator(input, room, p);
+    let (p, _) = expr_bp(input, room, p, level, None, false, 1);
+    grammar::close(input, room, p, k::R_BRACK, m, k::DESIGNATOR)
 }
 
 // indexed_identifier
 #[cycle(productions)]
 fn ids(
-    kinds: &[u16],
-    joints: &[u64],
+    input: &Input,
     room: &mut [u32],
     p: Parser,
-    mode: u8,
-    left: u32,
+    level: Level,
     first: Completed,
-) -> Done
-    requires { Fit p }
-    ensures { Does (env kinds.now joints.now) (E.indexed_identifier (counted (table_of mode) left) first) (view p room.old) result.cm (view result.p room.new) }
+) -> (Parser, Completed)
+    ensures { Does (tokens input.now) (E.indexed_identifier (counted (table_of level.mode) level.left) first) (view p room.old) result.1 (view result.0 room.new) }
 {
-    let p1 = p.must(kinds, joints, room, k::L_BRACK);
-    let s = p1.precede(room, first);
-    let m = s.m;
-    let mut q = s.p;
-    while q.at(kinds, joints, k::L_BRACK) {
-        q = subs(kinds, joints, room, q, mode, left);
+    let p = p.must(input, room, k::L_BRACK);
+    let (mut q, m) = p.precede(room, first);
+    while q.at(input, k::L_BRACK) {
+        q = subs(input, room, q, level);
     }
     q.complete(room, m, k::INDEXED_IDENTIFIER)
 }
 
 // set_expression
 #[cycle(productions)]
-fn set(kinds: &[u16], joints: &[u64], room: &mut [u32], p: Parser, mode: u8, left: u32) -> Parser
-    requires { Fit p }
-    ensures { Does (env kinds.now joints.now) (E.set_expression (counted (table_of mode) left)) (view p room.old) tt (view result room.new) }
+fn set(input: &Input, room: &mut [u32], p: Parser, level: Level) -> Parser
+    ensures { Does (tokens input.now) (E.set_expression (counted (table_of level.mode) level.left)) (view p room.old) tt (view result room.new) }
 {
-    let p1 = p.must(kinds, joints, room, k::L_CURLY);
-    let s = p1.start(room);
-    let p2 = s.p;
-    let p3 = p2.bump(kinds, joints, room, k::L_CURLY);
-    let p4 = els(kinds, joints, room, p3, mode, left);
-    let p5 = p4.bump(kinds, joints, room, k::R_CURLY);
-    grammar::completed(room, p5, s.m, k::SET_EXPRESSION)
+    let p = p.must(input, room, k::L_CURLY);
+    let (p, m) = p.start(room);
+    let p = p.bump(input, room, k::L_CURLY);
+    let p = els(input, room, p, level);
+    let p = p.bump(input, room, k::R_CURLY);
+    grammar::completed(room, p, m, k::SET_EXPRESSION)
 }
 
 // index_operator
 #[cycle(productions)]
-fn subs(kinds: &[u16], joints: &[u64], room: &mut [u32], p: Parser, mode: u8, left: u32) -> Parser
-    requires { Fit p }
-    ensures { Does (env kinds.now joints.now) (E.index_operator (counted (table_of mode) left)) (view p room.old) tt (view result room.new) }
+fn subs(input: &Input, room: &mut [u32], p: Parser, level: Level) -> Parser
+    ensures { Does (tokens input.now) (E.index_operator (counted (table_of level.mode) level.left)) (view p room.old) tt (view result room.new) }
 {
-    let p1 = p.must(kinds, joints, room, k::L_BRACK);
-    let s = p1.start(room);
-    let p2 = s.p;
-    let p3 = grammar::expected(kinds, joints, room, p2, k::L_BRACK);
-    if p3.at(kinds, joints, k::L_CURLY) {
-        let p4 = set(kinds, joints, room, p3, mode, left);
-        return grammar::close(kinds, joints, room, p4, k::R_BRACK, s.m, k::INDEX_OPERATOR);
+    let p = p.must(input, room, k::L_BRACK);
+    let (p, m) = p.start(room);
+    let p = grammar::expected(input, room, p, k::L_BRACK);
+    if p.at(input, k::L_CURLY) {
+        let p = set(input, room, p, level);
+        return grammar::close(input, room, p, k::R_BRACK, m, k::INDEX_OPERATOR);
     }
-    let p6 = els(kinds, joints, room, p3, mode, left);
-    grammar::close(kinds, joints, room, p6, k::R_BRACK, s.m, k::INDEX_OPERATOR)
+    let p = els(input, room, p, level);
+    grammar::close(input, room, p, k::R_BRACK, m, k::INDEX_OPERATOR)
 }
 
 // call_arg_list, with its use of `delimited`
 #[cycle(productions)]
-fn args(kinds: &[u16], joints: &[u64], room: &mut [u32], p: Parser, mode: u8, left: u32) -> Parser
-    requires { Fit p }
-    ensures { Does (env kinds.now joints.now) (E.call_arg_list (counted (table_of mode) left)) (view p room.old) tt (view result room.new) }
+fn args(input: &Input, room: &mut [u32], p: Parser, level: Level) -> Parser
+    ensures { Does (tokens input.now) (E.call_arg_list (counted (table_of level.mode) level.left)) (view p room.old) tt (view result room.new) }
 {
-    let p1 = p.must(kinds, joints, room, k::L_PAREN);
-    let s = p1.start(room);
-    let p2 = s.p;
-    let m = s.m;
-    let s1 = p2.start(room);
-    let p3 = s1.p;
-    let m1 = s1.m;
-    let mut q = p3.bump(kinds, joints, room, k::L_PAREN);
-    while q.goes_on(kinds, joints, k::R_PAREN) {
-        let e = expr_bp(kinds, joints, room, q, mode, left, Mark::Fresh, false, 1);
-        let q1 = e.p;
-        let g = e.got;
-        let Got::Is(_, _) = g else {
-            return expressions::args_end(kinds, joints, room, q1, m, m1);
+    let p = p.must(input, room, k::L_PAREN);
+    let (p, m) = p.start(room);
+    let (p, m1) = p.start(room);
+    let mut q = p.bump(input, room, k::L_PAREN);
+    while q.goes_on(input, k::R_PAREN) {
+        let (p, g) = expr_bp(input, room, q, level, None, false, 1);
+        let Some(_) = g else {
+            return expressions::args_end(input, room, p, m, m1);
         };
-        let t = grammar::separator(kinds, joints, room, q1, k::COMMA, Fixed::ExprFirst);
-        q = t.p;
-        if t.yes {
+        let (p, more) = grammar::separator(input, room, p, k::COMMA, Fixed::ExprFirst);
+        q = p;
+        if more {
             continue;
         }
-        return expressions::args_end(kinds, joints, room, q, m, m1);
+        return expressions::args_end(input, room, q, m, m1);
     }
-    expressions::args_end(kinds, joints, room, q, m, m1)
+    expressions::args_end(input, room, q, m, m1)
 }
 
 // ---- src/grammar/items.rs
@@ -1208,157 +930,102 @@ fn args(kinds: &[u16], joints: &[u64], room: &mut [u32], p: Parser, mode: u8, le
 // opt_item, with qubit_declaration_stmt, qubit_type_spec, while_stmt and cal_: the arms of its match before `reset`
 #[cycle(productions)]
 fn opt(
-    kinds: &[u16],
-    joints: &[u64],
+    input: &Input,
     room: &mut [u32],
     p: Parser,
-    mode: u8,
-    left: u32,
+    level: Level,
     m: u32,
-) -> Offered
-    requires { Fit p }
-    ensures { Does (env kinds.now joints.now) (I.opt_item (counted (table_of mode) left) m) (view p room.old) result.offer (view result.p room.new) }
+) -> (Parser, Result<(), u32>)
+    ensures { Does (tokens input.now) (I.opt_item (counted (table_of level.mode) level.left) m) (view p room.old) result.1 (view result.0 room.new) }
 {
-    let la = p.nth(kinds, joints, 1);
-    let p1 = la.p;
-    let l = p1.current(kinds, joints);
-    let p2 = l.p;
-    if items::declares(l.kind, la.kind) {
-        let p3 = decl(kinds, joints, room, p2, mode, left, m);
-        return Offered {
-            p: p3,
-            offer: Offer::Taken,
-        };
+    let (p, next) = p.nth(input, 1);
+    let (p, here) = p.current(input);
+    if items::declares(here, next) {
+        let p = decl(input, room, p, level, m);
+        return (p, Ok(()));
     }
-    let l2 = p2.current(kinds, joints);
-    let p3 = l2.p;
-    let first = l2.kind;
+    let (p, first) = p.current(input);
     match first {
         k::QUBIT_KW => {
-            let p4 = p3.must(kinds, joints, room, k::QUBIT_KW);
-            let p5 = p4.must(kinds, joints, room, k::QUBIT_KW);
-            let s = p5.start(room);
-            let p6 = s.p;
-            let p7 = expressions::type_name(kinds, joints, room, p6);
-            if p7.at(kinds, joints, k::L_BRACK) {
-                let p8 = width(kinds, joints, room, p7, mode, left);
-                let p9 = grammar::fail_if_at(
-                    kinds,
-                    joints,
+            let p = p.must(input, room, k::QUBIT_KW);
+            let p = p.must(input, room, k::QUBIT_KW);
+            let (p, m1) = p.start(room);
+            let p = expressions::type_name(input, room, p);
+            if p.at(input, k::L_BRACK) {
+                let p = width(input, room, p, level);
+                let p = grammar::fail_if_at(
+                    input,
                     room,
-                    p8,
+                    p,
                     k::HARDWAREIDENT,
                     say::FOUND_DESIGNATOR_IN_HARDWARE_QUBIT_DECLARATION,
                 );
-                let p10 = grammar::completed(room, p9, s.m, k::QUBIT_TYPE);
-                let p11 = items::qubit_end(kinds, joints, room, p10, m);
-                return Offered {
-                    p: p11,
-                    offer: Offer::Taken,
-                };
+                let p = grammar::completed(room, p, m1, k::QUBIT_TYPE);
+                let p = items::qubit_end(input, room, p, m);
+                return (p, Ok(()));
             }
-            let p12 = grammar::completed(room, p7, s.m, k::QUBIT_TYPE);
-            let p13 = items::qubit_end(kinds, joints, room, p12, m);
-            return Offered {
-                p: p13,
-                offer: Offer::Taken,
-            };
+            let p = grammar::completed(room, p, m1, k::QUBIT_TYPE);
+            let p = items::qubit_end(input, room, p, m);
+            return (p, Ok(()));
         }
         k::CONST_KW => {
-            let p4 = decl(kinds, joints, room, p3, mode, left, m);
-            return Offered {
-                p: p4,
-                offer: Offer::Taken,
-            };
+            let p = decl(input, room, p, level, m);
+            return (p, Ok(()));
         }
         k::GATE_KW => {
-            let p4 = gdef(kinds, joints, room, p3, mode, left, m);
-            return Offered {
-                p: p4,
-                offer: Offer::Taken,
-            };
+            let p = gdef(input, room, p, level, m);
+            return (p, Ok(()));
         }
         k::BREAK_KW => {
-            let p4 = items::break_(kinds, joints, room, p3, m);
-            return Offered {
-                p: p4,
-                offer: Offer::Taken,
-            };
+            let p = items::break_(input, room, p, m);
+            return (p, Ok(()));
         }
         k::CONTINUE_KW => {
-            let p4 = items::continue_(kinds, joints, room, p3, m);
-            return Offered {
-                p: p4,
-                offer: Offer::Taken,
-            };
+            let p = items::continue_(input, room, p, m);
+            return (p, Ok(()));
         }
         k::END_KW => {
-            let p4 = items::end_(kinds, joints, room, p3, m);
-            return Offered {
-                p: p4,
-                offer: Offer::Taken,
-            };
+            let p = items::end_(input, room, p, m);
+            return (p, Ok(()));
         }
         k::IF_KW => {
-            let p4 = ifs(kinds, joints, room, p3, mode, left, m);
-            return Offered {
-                p: p4,
-                offer: Offer::Taken,
-            };
+            let p = ifs(input, room, p, level, m);
+            return (p, Ok(()));
         }
         k::WHILE_KW => {
-            let p4 = p3.must(kinds, joints, room, k::WHILE_KW);
-            let p5 = p4.bump(kinds, joints, room, k::WHILE_KW);
-            let p6 = grammar::expected(kinds, joints, room, p5, k::L_PAREN);
-            let e = expr_bp(kinds, joints, room, p6, mode, left, Mark::Fresh, false, 1);
-            let p7 = e.p;
-            let p8 = grammar::expected(kinds, joints, room, p7, k::R_PAREN);
-            let p9 = body(kinds, joints, room, p8, mode, left);
-            let p10 = grammar::completed(room, p9, m, k::WHILE_STMT);
-            return Offered {
-                p: p10,
-                offer: Offer::Taken,
-            };
+            let p = p.must(input, room, k::WHILE_KW);
+            let p = p.bump(input, room, k::WHILE_KW);
+            let p = grammar::expected(input, room, p, k::L_PAREN);
+            let (p, _) = expr_bp(input, room, p, level, None, false, 1);
+            let p = grammar::expected(input, room, p, k::R_PAREN);
+            let p = body(input, room, p, level);
+            let p = grammar::completed(room, p, m, k::WHILE_STMT);
+            return (p, Ok(()));
         }
         k::FOR_KW => {
-            let p4 = fors(kinds, joints, room, p3, mode, left, m);
-            return Offered {
-                p: p4,
-                offer: Offer::Taken,
-            };
+            let p = fors(input, room, p, level, m);
+            return (p, Ok(()));
         }
         k::DEF_KW => {
-            let p4 = def(kinds, joints, room, p3, mode, left, m);
-            return Offered {
-                p: p4,
-                offer: Offer::Taken,
-            };
+            let p = def(input, room, p, level, m);
+            return (p, Ok(()));
         }
         k::DEFCAL_KW => {
-            let p4 = dcal(kinds, joints, room, p3, mode, left, m);
-            return Offered {
-                p: p4,
-                offer: Offer::Taken,
-            };
+            let p = dcal(input, room, p, level, m);
+            return (p, Ok(()));
         }
         k::CAL_KW => {
-            let p4 = p3.bump(kinds, joints, room, k::CAL_KW);
-            let p5 = body(kinds, joints, room, p4, mode, left);
-            let p6 = grammar::completed(room, p5, m, k::CAL);
-            return Offered {
-                p: p6,
-                offer: Offer::Taken,
-            };
+            let p = p.bump(input, room, k::CAL_KW);
+            let p = body(input, room, p, level);
+            let p = grammar::completed(room, p, m, k::CAL);
+            return (p, Ok(()));
         }
         k::DEFCALGRAMMAR_KW => {
-            let p4 = items::defcalgrammar_(kinds, joints, room, p3, m);
-            return Offered {
-                p: p4,
-                offer: Offer::Taken,
-            };
+            let p = items::defcalgrammar_(input, room, p, m);
+            return (p, Ok(()));
         }
         _ => {
-            return more(kinds, joints, room, p3, mode, left, m, first);
+            return more(input, room, p, level, m, first);
         }
     }
 }
@@ -1366,421 +1033,268 @@ fn opt(
 // the arms of opt_item from `reset` on, with reset_stmt, barrier_, alias_stmt and delay_stmt
 #[cycle(productions)]
 fn more(
-    kinds: &[u16],
-    joints: &[u64],
+    input: &Input,
     room: &mut [u32],
     p: Parser,
-    mode: u8,
-    left: u32,
+    level: Level,
     m: u32,
     first: u16,
-) -> Offered
-    requires { Fit p }
-    ensures { Does (env kinds.now joints.now) (I.opt_item_more (counted (table_of mode) left) m first) (view p room.old) result.offer (view result.p room.new) }
+) -> (Parser, Result<(), u32>)
+    ensures { Does (tokens input.now) (I.opt_item_more (counted (table_of level.mode) level.left) m first) (view p room.old) result.1 (view result.0 room.new) }
 {
     match first {
         k::RESET_KW => {
-            let p1 = p.bump(kinds, joints, room, k::RESET_KW);
-            let l = p1.current(kinds, joints);
-            let p2 = l.p;
-            if Fixed::QubitFirst.has(l.kind) {
-                let s = p2.start(room);
-                let p3 = s.p;
-                let x = qarg(kinds, joints, room, p3, mode, left, s.m);
-                let p4 = x.p;
-                let p5 = grammar::expected(kinds, joints, room, p4, k::SEMICOLON);
-                let p6 = grammar::completed(room, p5, m, k::RESET);
-                return Offered {
-                    p: p6,
-                    offer: Offer::Taken,
-                };
+            let p = p.bump(input, room, k::RESET_KW);
+            let (p, here) = p.current(input);
+            if Fixed::QubitFirst.has(here) {
+                let (p, m1) = p.start(room);
+                let (p, _) = qarg(input, room, p, level, m1);
+                let p = grammar::expected(input, room, p, k::SEMICOLON);
+                let p = grammar::completed(room, p, m, k::RESET);
+                return (p, Ok(()));
             }
-            let p7 = p2.error(room, say::EXPECTING_NAME_OF_QUBIT_OR_REGISTER_TO, 0);
-            let p8 = p7.abandon(room, m);
-            return Offered {
-                p: p8,
-                offer: Offer::Taken,
-            };
+            let p = p.error(room, say::EXPECTING_NAME_OF_QUBIT_OR_REGISTER_TO, 0);
+            let p = p.abandon(room, m);
+            return (p, Ok(()));
         }
         k::BARRIER_KW => {
-            let p1 = p.bump(kinds, joints, room, k::BARRIER_KW);
-            if p1.at(kinds, joints, k::SEMICOLON) {
-                let p2 = grammar::expected(kinds, joints, room, p1, k::SEMICOLON);
-                let p3 = grammar::completed(room, p2, m, k::BARRIER);
-                return Offered {
-                    p: p3,
-                    offer: Offer::Taken,
-                };
+            let p = p.bump(input, room, k::BARRIER_KW);
+            if p.at(input, k::SEMICOLON) {
+                let p = grammar::expected(input, room, p, k::SEMICOLON);
+                let p = grammar::completed(room, p, m, k::BARRIER);
+                return (p, Ok(()));
             }
-            let p4 = list(
-                kinds,
-                joints,
-                room,
-                p1,
-                mode,
-                left,
-                DefFlavor::GateCallQubits,
-            );
-            let p5 = grammar::expected(kinds, joints, room, p4, k::SEMICOLON);
-            let p6 = grammar::completed(room, p5, m, k::BARRIER);
-            return Offered {
-                p: p6,
-                offer: Offer::Taken,
-            };
+            let p = list(input, room, p, level, DefFlavor::GateCallQubits);
+            let p = grammar::expected(input, room, p, k::SEMICOLON);
+            let p = grammar::completed(room, p, m, k::BARRIER);
+            return (p, Ok(()));
         }
         k::O_P_E_N_Q_A_S_M_KW => {
-            let p1 = items::version_string(kinds, joints, room, p, m);
-            return Offered {
-                p: p1,
-                offer: Offer::Taken,
-            };
+            let p = items::version_string(input, room, p, m);
+            return (p, Ok(()));
         }
         k::INCLUDE_KW => {
-            let p1 = items::include(kinds, joints, room, p, m);
-            return Offered {
-                p: p1,
-                offer: Offer::Taken,
-            };
+            let p = items::include(input, room, p, m);
+            return (p, Ok(()));
         }
         k::SWITCH_KW => {
-            let p1 = sw(kinds, joints, room, p, mode, left, m);
-            return Offered {
-                p: p1,
-                offer: Offer::Taken,
-            };
+            let p = sw(input, room, p, level, m);
+            return (p, Ok(()));
         }
         k::LET_KW => {
-            let p1 = p.must(kinds, joints, room, k::LET_KW);
-            let p2 = p1.bump_any(kinds, joints, room);
-            let p3 = grammar::name_r(kinds, joints, room, p2, Fixed::ItemRecoverySet);
-            let p4 = grammar::expected(kinds, joints, room, p3, k::EQ);
-            let e = expr_bp(kinds, joints, room, p4, mode, left, Mark::Fresh, false, 1);
-            let p5 = e.p;
-            let p6 = grammar::expected(kinds, joints, room, p5, k::SEMICOLON);
-            let p7 = grammar::completed(room, p6, m, k::ALIAS_DECLARATION_STATEMENT);
-            return Offered {
-                p: p7,
-                offer: Offer::Taken,
-            };
+            let p = p.must(input, room, k::LET_KW);
+            let p = p.bump_any(input, room);
+            let p = grammar::name_r(input, room, p, Fixed::ItemRecoverySet);
+            let p = grammar::expected(input, room, p, k::EQ);
+            let (p, _) = expr_bp(input, room, p, level, None, false, 1);
+            let p = grammar::expected(input, room, p, k::SEMICOLON);
+            let p = grammar::completed(room, p, m, k::ALIAS_DECLARATION_STATEMENT);
+            return (p, Ok(()));
         }
         k::DELAY_KW => {
-            let p1 = p.bump(kinds, joints, room, k::DELAY_KW);
-            let p2 = width(kinds, joints, room, p1, mode, left);
-            let p3 = list(
-                kinds,
-                joints,
-                room,
-                p2,
-                mode,
-                left,
-                DefFlavor::GateCallQubits,
-            );
-            let p4 = grammar::expected(kinds, joints, room, p3, k::SEMICOLON);
-            let p5 = grammar::completed(room, p4, m, k::DELAY_STMT);
-            return Offered {
-                p: p5,
-                offer: Offer::Taken,
-            };
+            let p = p.bump(input, room, k::DELAY_KW);
+            let p = width(input, room, p, level);
+            let p = list(input, room, p, level, DefFlavor::GateCallQubits);
+            let p = grammar::expected(input, room, p, k::SEMICOLON);
+            let p = grammar::completed(room, p, m, k::DELAY_STMT);
+            return (p, Ok(()));
         }
         k::INPUT_KW => {
-            let p1 = io(kinds, joints, room, p, mode, left, m);
-            return Offered {
-                p: p1,
-                offer: Offer::Taken,
-            };
+            let p = io(input, room, p, level, m);
+            return (p, Ok(()));
         }
         k::OUTPUT_KW => {
-            let p1 = io(kinds, joints, room, p, mode, left, m);
-            return Offered {
-                p: p1,
-                offer: Offer::Taken,
-            };
+            let p = io(input, room, p, level, m);
+            return (p, Ok(()));
         }
         _ => {
-            return Offered {
-                p,
-                offer: Offer::Back(m),
-            };
+            return (p, Err(m));
         }
     }
 }
 
 // switch_case_stmt
 #[cycle(productions)]
-fn sw(
-    kinds: &[u16],
-    joints: &[u64],
-    room: &mut [u32],
-    p: Parser,
-    mode: u8,
-    left: u32,
-    m: u32,
-) -> Parser
-    requires { Fit p }
-    ensures { Does (env kinds.now joints.now) (I.switch_case_stmt (counted (table_of mode) left) m) (view p room.old) tt (view result room.new) }
+fn sw(input: &Input, room: &mut [u32], p: Parser, level: Level, m: u32) -> Parser
+    ensures { Does (tokens input.now) (I.switch_case_stmt (counted (table_of level.mode) level.left) m) (view p room.old) tt (view result room.new) }
 {
-    let p1 = p.must(kinds, joints, room, k::SWITCH_KW);
-    let p2 = p1.bump(kinds, joints, room, k::SWITCH_KW);
-    let p3 = grammar::expected(kinds, joints, room, p2, k::L_PAREN);
-    let e = expr_bp(kinds, joints, room, p3, mode, left, Mark::Fresh, false, 1);
-    let p4 = e.p;
-    let p5 = grammar::expected(kinds, joints, room, p4, k::R_PAREN);
-    let p6 = grammar::expected(kinds, joints, room, p5, k::L_CURLY);
-    let mut q = grammar::fail_unless_at(
-        kinds,
-        joints,
-        room,
-        p6,
-        k::CASE_KW,
-        say::EXPECTING_CASE_KEYWORD,
-    );
-    while q.at(kinds, joints, k::CASE_KW) {
-        let s = q.start(room);
-        let q1 = s.p;
-        let q2 = q1.bump(kinds, joints, room, k::CASE_KW);
-        let q3 = els(kinds, joints, room, q2, mode, left);
-        let q4 = body(kinds, joints, room, q3, mode, left);
-        q = grammar::completed(room, q4, s.m, k::CASE_EXPR);
+    let p = p.must(input, room, k::SWITCH_KW);
+    let p = p.bump(input, room, k::SWITCH_KW);
+    let p = grammar::expected(input, room, p, k::L_PAREN);
+    let (p, _) = expr_bp(input, room, p, level, None, false, 1);
+    let p = grammar::expected(input, room, p, k::R_PAREN);
+    let p = grammar::expected(input, room, p, k::L_CURLY);
+    let mut q = grammar::fail_unless_at(input, room, p, k::CASE_KW, say::EXPECTING_CASE_KEYWORD);
+    while q.at(input, k::CASE_KW) {
+        let (p, m1) = q.start(room);
+        let p = p.bump(input, room, k::CASE_KW);
+        let p = els(input, room, p, level);
+        let p = body(input, room, p, level);
+        q = grammar::completed(room, p, m1, k::CASE_EXPR);
     }
-    let w = q.eat(kinds, joints, room, k::DEFAULT_KW);
-    let p7 = w.p;
-    if w.yes {
-        let p8 = body(kinds, joints, room, p7, mode, left);
-        return grammar::close(kinds, joints, room, p8, k::R_CURLY, m, k::SWITCH_CASE_STMT);
+    let (p, eaten) = q.eat(input, room, k::DEFAULT_KW);
+    if eaten {
+        let p = body(input, room, p, level);
+        return grammar::close(input, room, p, k::R_CURLY, m, k::SWITCH_CASE_STMT);
     }
-    grammar::close(kinds, joints, room, p7, k::R_CURLY, m, k::SWITCH_CASE_STMT)
+    grammar::close(input, room, p, k::R_CURLY, m, k::SWITCH_CASE_STMT)
 }
 
 // if_stmt
 #[cycle(productions)]
-fn ifs(
-    kinds: &[u16],
-    joints: &[u64],
-    room: &mut [u32],
-    p: Parser,
-    mode: u8,
-    left: u32,
-    m: u32,
-) -> Parser
-    requires { Fit p }
-    ensures { Does (env kinds.now joints.now) ((counted (table_of mode) left).if_stmt m) (view p room.old) tt (view result room.new) }
+fn ifs(input: &Input, room: &mut [u32], p: Parser, level: Level, m: u32) -> Parser
+    ensures { Does (tokens input.now) ((counted (table_of level.mode) level.left).if_stmt m) (view p room.old) tt (view result room.new) }
 {
-    if left == 0 {
+    if level.left == 0 {
         return p.stop(room, Stop::Deep);
     }
-    let d = left - 1;
-    let p1 = p.must(kinds, joints, room, k::IF_KW);
-    let p2 = p1.bump(kinds, joints, room, k::IF_KW);
-    let p3 = grammar::expected(kinds, joints, room, p2, k::L_PAREN);
-    let e = expr_bp(kinds, joints, room, p3, mode, d, Mark::Fresh, false, 1);
-    let p4 = e.p;
-    let p5 = grammar::expected(kinds, joints, room, p4, k::R_PAREN);
-    let p6 = body(kinds, joints, room, p5, mode, d);
-    if p6.at(kinds, joints, k::ELSE_KW) {
-        let p7 = p6.bump(kinds, joints, room, k::ELSE_KW);
-        if p7.at(kinds, joints, k::IF_KW) {
-            let s = p7.start(room);
-            let p8 = s.p;
-            let p9 = ifs(kinds, joints, room, p8, mode, d, s.m);
-            return grammar::completed(room, p9, m, k::IF_STMT);
+    let d = Level {
+        left: level.left - 1,
+        ..level
+    };
+    let p = p.must(input, room, k::IF_KW);
+    let p = p.bump(input, room, k::IF_KW);
+    let p = grammar::expected(input, room, p, k::L_PAREN);
+    let (p, _) = expr_bp(input, room, p, d, None, false, 1);
+    let p = grammar::expected(input, room, p, k::R_PAREN);
+    let p = body(input, room, p, d);
+    if p.at(input, k::ELSE_KW) {
+        let p = p.bump(input, room, k::ELSE_KW);
+        if p.at(input, k::IF_KW) {
+            let (p, m1) = p.start(room);
+            let p = ifs(input, room, p, d, m1);
+            return grammar::completed(room, p, m, k::IF_STMT);
         }
-        let p10 = body(kinds, joints, room, p7, mode, d);
-        return grammar::completed(room, p10, m, k::IF_STMT);
+        let p = body(input, room, p, d);
+        return grammar::completed(room, p, m, k::IF_STMT);
     }
-    grammar::completed(room, p6, m, k::IF_STMT)
+    grammar::completed(room, p, m, k::IF_STMT)
 }
 
 // for_stmt
 #[cycle(productions)]
-fn fors(
-    kinds: &[u16],
-    joints: &[u64],
-    room: &mut [u32],
-    p: Parser,
-    mode: u8,
-    left: u32,
-    m: u32,
-) -> Parser
-    requires { Fit p }
-    ensures { Does (env kinds.now joints.now) (I.for_stmt (counted (table_of mode) left) m) (view p room.old) tt (view result room.new) }
+fn fors(input: &Input, room: &mut [u32], p: Parser, level: Level, m: u32) -> Parser
+    ensures { Does (tokens input.now) (I.for_stmt (counted (table_of level.mode) level.left) m) (view p room.old) tt (view result room.new) }
 {
-    let p1 = p.must(kinds, joints, room, k::FOR_KW);
-    let p2 = p1.bump(kinds, joints, room, k::FOR_KW);
-    let p3 = spec(kinds, joints, room, p2, mode, left);
-    let p4 = grammar::name_r(kinds, joints, room, p3, Fixed::Empty);
-    let p5 = grammar::expected(kinds, joints, room, p4, k::IN_KW);
-    let s = p5.start(room);
-    let p6 = s.p;
-    if p6.at(kinds, joints, k::L_CURLY) {
-        let p7 = set(kinds, joints, room, p6, mode, left);
-        return rest(kinds, joints, room, p7, mode, left, m, s.m);
+    let p = p.must(input, room, k::FOR_KW);
+    let p = p.bump(input, room, k::FOR_KW);
+    let p = spec(input, room, p, level);
+    let p = grammar::name_r(input, room, p, Fixed::Empty);
+    let p = grammar::expected(input, room, p, k::IN_KW);
+    let (p, m1) = p.start(room);
+    if p.at(input, k::L_CURLY) {
+        let p = set(input, room, p, level);
+        return rest(input, room, p, level, m, m1);
     }
-    if p6.at(kinds, joints, k::L_BRACK) {
-        let p8 = range(kinds, joints, room, p6, mode, left);
-        return rest(kinds, joints, room, p8, mode, left, m, s.m);
+    if p.at(input, k::L_BRACK) {
+        let p = range(input, room, p, level);
+        return rest(input, room, p, level, m, m1);
     }
-    let e = expr_bp(kinds, joints, room, p6, mode, left, Mark::Fresh, false, 1);
-    let p9 = e.p;
-    rest(kinds, joints, room, p9, mode, left, m, s.m)
+    let (p, _) = expr_bp(input, room, p, level, None, false, 1);
+    rest(input, room, p, level, m, m1)
 }
 
 // the end of for_stmt: its iterable, and its body
 #[cycle(productions)]
-fn rest(
-    kinds: &[u16],
-    joints: &[u64],
-    room: &mut [u32],
-    p: Parser,
-    mode: u8,
-    left: u32,
-    m: u32,
-    m1: u32,
-) -> Parser
-    requires { Fit p }
-    ensures { Does (env kinds.now joints.now) (I.for_rest (counted (table_of mode) left) m m1) (view p room.old) tt (view result room.new) }
+fn rest(input: &Input, room: &mut [u32], p: Parser, level: Level, m: u32, m1: u32) -> Parser
+    ensures { Does (tokens input.now) (I.for_rest (counted (table_of level.mode) level.left) m m1) (view p room.old) tt (view result room.new) }
 {
-    let p1 = grammar::completed(room, p, m1, k::FOR_ITERABLE);
-    if p1.at(kinds, joints, k::L_CURLY) {
-        let x = blk(kinds, joints, room, p1, mode, left);
-        let p2 = x.p;
-        return grammar::completed(room, p2, m, k::FOR_STMT);
+    let p = grammar::completed(room, p, m1, k::FOR_ITERABLE);
+    if p.at(input, k::L_CURLY) {
+        let (p, _) = blk(input, room, p, level);
+        return grammar::completed(room, p, m, k::FOR_STMT);
     }
-    let p3 = stmt(kinds, joints, room, p1, mode, left);
-    grammar::completed(room, p3, m, k::FOR_STMT)
+    let p = stmt(input, room, p, level);
+    grammar::completed(room, p, m, k::FOR_STMT)
 }
 
 // gate_definition
 #[cycle(productions)]
-fn gdef(
-    kinds: &[u16],
-    joints: &[u64],
-    room: &mut [u32],
-    p: Parser,
-    mode: u8,
-    left: u32,
-    m: u32,
-) -> Parser
-    requires { Fit p }
-    ensures { Does (env kinds.now joints.now) (I.gate_definition (counted (table_of mode) left) m) (view p room.old) tt (view result room.new) }
+fn gdef(input: &Input, room: &mut [u32], p: Parser, level: Level, m: u32) -> Parser
+    ensures { Does (tokens input.now) (I.gate_definition (counted (table_of level.mode) level.left) m) (view p room.old) tt (view result room.new) }
 {
-    let p1 = p.bump(kinds, joints, room, k::GATE_KW);
-    let p2 = grammar::name_r(kinds, joints, room, p1, Fixed::ItemRecoverySet);
-    if p2.at(kinds, joints, k::L_PAREN) {
-        let p3 = list(kinds, joints, room, p2, mode, left, DefFlavor::GateParams);
-        let p4 = list(kinds, joints, room, p3, mode, left, DefFlavor::GateQubits);
-        let p5 = body(kinds, joints, room, p4, mode, left);
-        return grammar::completed(room, p5, m, k::GATE);
+    let p = p.bump(input, room, k::GATE_KW);
+    let p = grammar::name_r(input, room, p, Fixed::ItemRecoverySet);
+    if p.at(input, k::L_PAREN) {
+        let p = list(input, room, p, level, DefFlavor::GateParams);
+        let p = list(input, room, p, level, DefFlavor::GateQubits);
+        let p = body(input, room, p, level);
+        return grammar::completed(room, p, m, k::GATE);
     }
-    let p6 = list(kinds, joints, room, p2, mode, left, DefFlavor::GateQubits);
-    let p7 = body(kinds, joints, room, p6, mode, left);
-    grammar::completed(room, p7, m, k::GATE)
+    let p = list(input, room, p, level, DefFlavor::GateQubits);
+    let p = body(input, room, p, level);
+    grammar::completed(room, p, m, k::GATE)
 }
 
 // defcal_
 #[cycle(productions)]
-fn dcal(
-    kinds: &[u16],
-    joints: &[u64],
-    room: &mut [u32],
-    p: Parser,
-    mode: u8,
-    left: u32,
-    m: u32,
-) -> Parser
-    requires { Fit p }
-    ensures { Does (env kinds.now joints.now) (I.defcal (counted (table_of mode) left) m) (view p room.old) tt (view result room.new) }
+fn dcal(input: &Input, room: &mut [u32], p: Parser, level: Level, m: u32) -> Parser
+    ensures { Does (tokens input.now) (I.defcal (counted (table_of level.mode) level.left) m) (view p room.old) tt (view result room.new) }
 {
-    let p1 = p.bump(kinds, joints, room, k::DEFCAL_KW);
-    let p2 = grammar::name_r(kinds, joints, room, p1, Fixed::ItemRecoverySet);
-    if p2.at(kinds, joints, k::L_PAREN) {
-        let p3 = list(kinds, joints, room, p2, mode, left, DefFlavor::DefCalParams);
-        let p4 = list(kinds, joints, room, p3, mode, left, DefFlavor::DefCalQubits);
-        return sig(kinds, joints, room, p4, mode, left, m, k::DEF_CAL);
+    let p = p.bump(input, room, k::DEFCAL_KW);
+    let p = grammar::name_r(input, room, p, Fixed::ItemRecoverySet);
+    if p.at(input, k::L_PAREN) {
+        let p = list(input, room, p, level, DefFlavor::DefCalParams);
+        let p = list(input, room, p, level, DefFlavor::DefCalQubits);
+        return sig(input, room, p, level, m, k::DEF_CAL);
     }
-    let p5 = list(kinds, joints, room, p2, mode, left, DefFlavor::DefCalQubits);
-    sig(kinds, joints, room, p5, mode, left, m, k::DEF_CAL)
+    let p = list(input, room, p, level, DefFlavor::DefCalQubits);
+    sig(input, room, p, level, m, k::DEF_CAL)
 }
 
 // _returns_bool_classical_declaration_stmt
 #[cycle(productions)]
-fn decl(
-    kinds: &[u16],
-    joints: &[u64],
-    room: &mut [u32],
-    p: Parser,
-    mode: u8,
-    left: u32,
-    m: u32,
-) -> Parser
-    requires { Fit p }
-    ensures { Does (env kinds.now joints.now) (I.classical_declaration_stmt (counted (table_of mode) left) m) (view p room.old) tt (view result room.new) }
+fn decl(input: &Input, room: &mut [u32], p: Parser, level: Level, m: u32) -> Parser
+    ensures { Does (tokens input.now) (I.classical_declaration_stmt (counted (table_of level.mode) level.left) m) (view p room.old) tt (view result room.new) }
 {
-    let t = p.eat(kinds, joints, room, k::CONST_KW);
-    let p1 = t.p;
-    let s = p1.start(room);
-    let p2 = s.p;
-    let p3 = spec(kinds, joints, room, p2, mode, left);
-    let l = p3.current(kinds, joints);
-    let p4 = l.p;
-    if l.kind == k::L_PAREN {
-        let p5 = grammar::expected(kinds, joints, room, p4, k::L_PAREN);
-        let e = expr_bp(kinds, joints, room, p5, mode, left, Mark::Fresh, false, 1);
-        let p6 = e.p;
-        let p7 = grammar::expected(kinds, joints, room, p6, k::R_PAREN);
-        let p8 = grammar::completed(room, p7, s.m, k::CAST_EXPRESSION);
-        if p8.at(kinds, joints, k::SEMICOLON) {
-            return grammar::close(kinds, joints, room, p8, k::SEMICOLON, m, k::EXPR_STMT);
+    let (p, _) = p.eat(input, room, k::CONST_KW);
+    let (p, m1) = p.start(room);
+    let p = spec(input, room, p, level);
+    let (p, here) = p.current(input);
+    if here == k::L_PAREN {
+        let p = grammar::expected(input, room, p, k::L_PAREN);
+        let (p, _) = expr_bp(input, room, p, level, None, false, 1);
+        let p = grammar::expected(input, room, p, k::R_PAREN);
+        let p = grammar::completed(room, p, m1, k::CAST_EXPRESSION);
+        if p.at(input, k::SEMICOLON) {
+            return grammar::close(input, room, p, k::SEMICOLON, m, k::EXPR_STMT);
         }
-        return p8.abandon(room, m);
+        return p.abandon(room, m);
     }
-    let p10 = p4.abandon(room, s.m);
-    let p11 = grammar::var_name(kinds, joints, room, p10);
-    let y = p11.eat(kinds, joints, room, k::SEMICOLON);
-    let p12 = y.p;
-    if y.yes {
-        return grammar::completed(room, p12, m, k::CLASSICAL_DECLARATION_STATEMENT);
+    let p = p.abandon(room, m1);
+    let p = grammar::var_name(input, room, p);
+    let (p, eaten) = p.eat(input, room, k::SEMICOLON);
+    if eaten {
+        return grammar::completed(room, p, m, k::CLASSICAL_DECLARATION_STATEMENT);
     }
-    let z = p12.expect(kinds, joints, room, k::EQ);
-    let p13 = z.p;
-    if z.yes {
-        let e = expr_bp(kinds, joints, room, p13, mode, left, Mark::Fresh, false, 1);
-        let p14 = e.p;
+    let (p, met) = p.expect(input, room, k::EQ);
+    if met {
+        let (p, _) = expr_bp(input, room, p, level, None, false, 1);
         return grammar::close(
-            kinds,
-            joints,
+            input,
             room,
-            p14,
+            p,
             k::SEMICOLON,
             m,
             k::CLASSICAL_DECLARATION_STATEMENT,
         );
     }
-    p13.abandon(room, m)
+    p.abandon(room, m)
 }
 
 // io_declaration_stmt
 #[cycle(productions)]
-fn io(
-    kinds: &[u16],
-    joints: &[u64],
-    room: &mut [u32],
-    p: Parser,
-    mode: u8,
-    left: u32,
-    m: u32,
-) -> Parser
-    requires { Fit p }
-    ensures { Does (env kinds.now joints.now) (I.io_declaration_stmt (counted (table_of mode) left) m) (view p room.old) tt (view result room.new) }
+fn io(input: &Input, room: &mut [u32], p: Parser, level: Level, m: u32) -> Parser
+    ensures { Does (tokens input.now) (I.io_declaration_stmt (counted (table_of level.mode) level.left) m) (view p room.old) tt (view result room.new) }
 {
-    let p1 = p.bump_any(kinds, joints, room);
-    let p2 = items::io_type(kinds, joints, room, p1);
-    let p3 = spec(kinds, joints, room, p2, mode, left);
-    let p4 = grammar::var_name(kinds, joints, room, p3);
+    let p = p.bump_any(input, room);
+    let p = items::io_type(input, room, p);
+    let p = spec(input, room, p, level);
+    let p = grammar::var_name(input, room, p);
     grammar::close(
-        kinds,
-        joints,
+        input,
         room,
-        p4,
+        p,
         k::SEMICOLON,
         m,
         k::I_O_DECLARATION_STATEMENT,
@@ -1789,25 +1303,16 @@ fn io(
 
 // def_stmt
 #[cycle(productions)]
-fn def(
-    kinds: &[u16],
-    joints: &[u64],
-    room: &mut [u32],
-    p: Parser,
-    mode: u8,
-    left: u32,
-    m: u32,
-) -> Parser
-    requires { Fit p }
-    ensures { Does (env kinds.now joints.now) (I.def_stmt (counted (table_of mode) left) m) (view p room.old) tt (view result room.new) }
+fn def(input: &Input, room: &mut [u32], p: Parser, level: Level, m: u32) -> Parser
+    ensures { Does (tokens input.now) (I.def_stmt (counted (table_of level.mode) level.left) m) (view p room.old) tt (view result room.new) }
 {
-    let p1 = p.must(kinds, joints, room, k::DEF_KW);
-    let p2 = p1.bump_any(kinds, joints, room);
-    let p3 = grammar::name_r(kinds, joints, room, p2, Fixed::ItemRecoverySet);
-    if p3.at(kinds, joints, k::L_PAREN) {
-        let p4 = list(kinds, joints, room, p3, mode, left, DefFlavor::DefParams);
-        return sig(kinds, joints, room, p4, mode, left, m, k::DEF);
+    let p = p.must(input, room, k::DEF_KW);
+    let p = p.bump_any(input, room);
+    let p = grammar::name_r(input, room, p, Fixed::ItemRecoverySet);
+    if p.at(input, k::L_PAREN) {
+        let p = list(input, room, p, level, DefFlavor::DefParams);
+        return sig(input, room, p, level, m, k::DEF);
     }
-    let p5 = p3.error(room, say::EXPECTED_FUNCTION_ARGUMENTS_IN_DEF, 0);
-    sig(kinds, joints, room, p5, mode, left, m, k::DEF)
+    let p = p.error(room, say::EXPECTED_FUNCTION_ARGUMENTS_IN_DEF, 0);
+    sig(input, room, p, level, m, k::DEF)
 }

@@ -13,6 +13,7 @@ pub const EVENT_WORDS: usize = 2;
 pub const MOST_EVENTS: usize = 65536;
 
 // The first word of a start, a finish, a token and an error is one of these and the kind or the code.
+// Stays (C interface): these numbers stand in the words that C lends.
 pub const START: u32 = 65536;
 
 pub const FINISH: u32 = 131072;
@@ -21,6 +22,7 @@ pub const TOKEN: u32 = 196608;
 
 pub const ERROR: u32 = 262144;
 
+// Stays (C interface): 0 for no distance, here and below, as the words have it that C lends.
 // An event: its kind and the distance to its forward parent, 0 for none; a kind and the raw count; a code, its argument and the kind found,
 // which only "expected KIND" has: its code is 1.
 #[derive(Clone, Copy)]
@@ -41,12 +43,14 @@ pub struct Words {
 }
 
 // The words that say an event.
+// Stays (plainer): `encode` and `decode` are a pair by the names of the definitions; `decode` takes two words, which no caller has as `Words`.
+#[tactic(auto, unfolding(crate::specs::Event::encode))]
 pub fn encode(e: Event) -> Words
     ensures { result ≡ spec.encode e }
 {
     match e {
         Event::Start(k, d) => Words {
-            first: START + k as u32,
+            first: START + u32::from(k),
             second: d,
         },
         Event::Finish => Words {
@@ -54,12 +58,12 @@ pub fn encode(e: Event) -> Words
             second: 0,
         },
         Event::Token(k, n) => Words {
-            first: TOKEN + k as u32,
-            second: n as u32,
+            first: TOKEN + u32::from(k),
+            second: u32::from(n),
         },
         Event::Error(c, x, f) => Words {
-            first: ERROR + c as u32,
-            second: x as u32 + 65536 * f as u32,
+            first: ERROR + u32::from(c),
+            second: u32::from(x) + 65536 * u32::from(f),
         },
         Event::NoEvent(a, b) => Words {
             first: a,
@@ -69,40 +73,19 @@ pub fn encode(e: Event) -> Words
 }
 
 // The event that words say.
+#[tactic(auto, unfolding(crate::specs::Event::decode, crate::specs::Event::error_of))]
 pub fn decode(a: u32, b: u32) -> Event
     ensures { result ≡ spec.decode a b }
 {
-    let t = a / 65536;
     let k = (a % 65536) as u16;
-    if t == 1 {
-        return Event::Start(k, b);
+    match a / 65536 {
+        1 => Event::Start(k, b),
+        2 if k == 0 && b == 0 => Event::Finish,
+        3 if 1 <= b && b <= 3 => Event::Token(k, b as u8),
+        4 if k == 1 => Event::Error(k, (b % 65536) as u16, (b / 65536) as u16),
+        4 if b < 65536 => Event::Error(k, b as u16, 0),
+        _ => Event::NoEvent(a, b),
     }
-    if t == 2 {
-        if k == 0 {
-            if b == 0 {
-                return Event::Finish;
-            }
-        }
-        return Event::NoEvent(a, b);
-    }
-    if t == 3 {
-        if b == 0 {
-            return Event::NoEvent(a, b);
-        }
-        if b <= 3 {
-            return Event::Token(k, b as u8);
-        }
-        return Event::NoEvent(a, b);
-    }
-    if t == 4 {
-        if k == 1 {
-            return Event::Error(k, (b % 65536) as u16, (b / 65536) as u16);
-        }
-        if b < 65536 {
-            return Event::Error(k, b as u16, 0);
-        }
-    }
-    Event::NoEvent(a, b)
 }
 
 // The distance to the forward parent, 0 for none.
@@ -111,10 +94,7 @@ pub fn distance(e: Event) -> u32
 {
     match e {
         Event::Start(_, d) => d,
-        Event::Finish => 0,
-        Event::Token(_, _) => 0,
-        Event::Error(_, _, _) => 0,
-        Event::NoEvent(_, _) => 0,
+        _ => 0,
     }
 }
 
@@ -122,14 +102,11 @@ pub fn distance(e: Event) -> u32
 pub fn holds(words: usize) -> usize
     ensures { result ≡ spec.holds (words / event_words) }
 {
-    if words / EVENT_WORDS < MOST_EVENTS {
-        words / EVENT_WORDS
-    } else {
-        MOST_EVENTS
-    }
+    (words / EVENT_WORDS).min(MOST_EVENTS)
 }
 
 // Event i of a list.
+// Stays (plainer): that i is below the number of events is what any index asks; a struct of words and i would be made for each call.
 pub fn event_at(words: &[u32], i: usize) -> Event
     requires { i < length words.now / event_words }
     ensures { result ≡ get_or (events_of words.now) i spec.none }
@@ -162,10 +139,7 @@ pub fn bare_at(words: &[u32], i: usize) -> bool
     requires { i < length words.now / event_words }
     ensures { result ≡ spec.is_bare (get_or (events_of words.now) i spec.none) }
 {
-    if words[EVENT_WORDS * i] == START {
-        return words[EVENT_WORDS * i + 1] == 0;
-    }
-    false
+    words[EVENT_WORDS * i] == START && words[EVENT_WORDS * i + 1] == 0
 }
 
 // Gives the start that stands at i another kind.
@@ -174,10 +148,7 @@ pub fn set_kind(words: &mut [u32], i: usize, kind: u16)
     requires none_value { spec.is_start (get_or (events_of words.old) i spec.none) ≡ true }
     ensures { words.new ≡ stored words.old i (spec.with_kind kind (get_or (events_of words.old) i spec.none)) }
 {
-    let at = EVENT_WORDS * i;
-    let distance = words[at + 1];
-    words[at] = START + kind as u32;
-    words[at + 1] = distance;
+    words[EVENT_WORDS * i] = START + u32::from(kind);
 }
 
 // Gives it another distance.
@@ -186,10 +157,7 @@ pub fn set_distance(words: &mut [u32], i: usize, distance: u32)
     requires none_value { spec.is_start (get_or (events_of words.old) i spec.none) ≡ true }
     ensures { words.new ≡ stored words.old i (spec.with_distance distance (get_or (events_of words.old) i spec.none)) }
 {
-    let at = EVENT_WORDS * i;
-    let first = words[at];
-    words[at] = first;
-    words[at + 1] = distance;
+    words[EVENT_WORDS * i + 1] = distance;
 }
 
 // Makes event i a bare tombstone.

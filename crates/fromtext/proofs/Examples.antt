@@ -22,7 +22,7 @@ use Rattle.turns.specs.Process.{follow, entered, turn, turns}
 use Rattle.parse.specs.Parse.{first_fault, settled, parsed}
 use Rattle.records.specs.declared.Step.{Step}
 use Rattle.records.specs.declared.Step.TheVariants.{Enter as enter, Leave as leave, Token as taken, Error as failed, Expected as lacked}
-use Rattle.parse.specs.declared.Answer.{Answer}
+use Rattle.parse.specs.Parse.{Answer}
 use Rattle.parse.specs.declared.Entry.TheVariants.{SourceFile}
 use Rattle.parse.specs.Parse as P
 use Rattle.answers.specs.Handed.{steps_in}

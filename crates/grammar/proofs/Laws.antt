@@ -27,7 +27,7 @@ pub past : {A B : Type 0} (e : Env) (m : Acts A) (k : Acts B) (s : St) {r : St} 
 unfolding run
 past e m k s {r} h g =
     let q : (run e m s).1 ≡ r = ap (λ (o : Unit {0} × St). o.1) (sym (run_bind e m (λ x. done (tt {0})) s) ∙ h.same) in
-    record { same = run_bind e m (λ x. k) s ∙ rw q g.same; fit = g.fit }
+    record { same = run_bind e m (λ x. k) s ∙ rw q g.same }
 
 pub passed : {A B : Type 0} (e : Env) (m : Acts A) (k : Acts B) (s : St) {r : St} {b : B} {t : St} → Steps (m >>= (λ x. done (tt {0}))) s (tt {0}) r → Does e k r b t → Does e (m >>= (λ x. k)) s b t
 passed e m k s h g = past e m k s (any e _ s h) g

@@ -5,7 +5,7 @@ use mathlib.Core.List.{[]}
 use Prim.Native.Nat.{ℕ, zero, suc, ◌+◌, ◌≤◌, ◌<◌}
 use native.Mathlib.Omega.{arith}
 use Rattle.kinds.specs.Kinds.{EOF, DOT3, SEMICOLON, LET-KW, L-BRACK}
-use Rattle.runtime.specs.declared.parser.Parser.{Parser}
+use Rattle.runtime.specs.State.{Parser}
 use Rattle.runtime.specs.declared.parser.Stop.TheVariants.{Deep}
 use Rattle.kinds.specs.Membership.{one_of}
 use Rattle.input.specs.Input.{Env}
@@ -17,7 +17,7 @@ use Rattle.runtime.proofs.Laws.{Spends, spends-nth, spends-at-ts, spends-bump, s
 use Rattle.operators.specs.declared.Op.{Op}
 use Rattle.operators.specs.Operators.{Table, Fair, current_op, arms, arm_of}
 use Rattle.operators.proofs.Tables.{near}
-use Rattle.grammar.specs.declared.Mark.{Mark}
+use Rattle.std.specs.Prelude.{Option}
 use Rattle.grammar.specs.declared.Shape.{Shape}
 use Rattle.grammar.specs.Grammar.{Counted}
 use Rattle.grammar.specs.Expressions as E
@@ -26,7 +26,7 @@ use Rattle.grammar.specs.Items as I
 use Rattle.grammar.specs.Entry.{counted}
 
 -- an expression: its first lookup
-pub expr_bp-spends : (ops : Table) (n : ℕ) (m : Mark) (prefer : Bool) (bp : ℕ) → Spends ((counted ops n).expr_bp m prefer bp)
+pub expr_bp-spends : (ops : Table) (n : ℕ) (m : Option ℕ) (prefer : Bool) (bp : ℕ) → Spends ((counted ops n).expr_bp m prefer bp)
 unfolding counted E.expr_bp E.lacks_expr
 expr_bp-spends ops zero m prefer bp = spends-first _ _ (spends-stop Deep acts.Acts.done)
 expr_bp-spends ops (suc n) m prefer bp = spends-rest (E.marker m) _ (λ x. spends-first E.lacks_expr _ (spends-first (at_ts _) _ (spends-at-ts _)))

@@ -1,15 +1,11 @@
 -- src/grammar/expressions/atom.rs. Each definition has the name of its function there. Assumes nothing: these are definitions.
-use Rattle.std.specs.Prelude.{Bool, true, false, not, ◌&&◌, cond, [], ◌∷◌, ℕ, eqb}
+use Rattle.std.specs.Prelude.{Bool, true, false, not, ◌&&◌, cond, [], ◌∷◌, ℕ, eqb, Option, Some, None}
 use Rattle.kinds.specs.Membership.{one_of}
 use Rattle.kinds.specs.Kinds.{SEMICOLON, COMMA, L-PAREN, R-PAREN, L-BRACK, R-BRACK, L-CURLY, R-CURLY, AT, IDENT, HARDWAREIDENT, STRING, BOX-KW, MEASURE-KW, RETURN-KW, INV-KW, POW-KW, CTRL-KW, NEGCTRL-KW, GPHASE-KW, LITERAL, TIMING-LITERAL, CAST-EXPRESSION, G-PHASE-CALL-EXPR, INV-MODIFIER, POW-MODIFIER, CTRL-MODIFIER, NEG-CTRL-MODIFIER, PAREN-EXPR, TUPLE-EXPR, MODIFIED-GATE-CALL-EXPR, GATE-CALL-EXPR, MEASURE-EXPRESSION, IDENTIFIER, HARDWARE-QUBIT, ARRAY-EXPR, BLOCK-EXPR, RETURN-EXPR, BOX-EXPR}
 use Rattle.kinds.specs.Sets.{LITERAL-FIRST, TIMING-LITERAL-FIRST, EXPR-FIRST, CLASSICAL-TYPES, QUBIT-FIRST}
 use Rattle.kinds.specs.Messages.{UNEXPECTED-STRING-LITERAL, TIMING-AND-IMAGINARY-LITERALS-MUST-BEGIN-WITH, ATOM-EXPR-EXPECTED-EXPRESSION, MODIFIER-INV-ACCEPTS-NO-PARAMETER-EXPECTING-AT, EXPECTING-AT, EXPECTING-ARGUMENT-TO-POW-GATE-MODIFIER, EXPECTING-QUBIT-S-TO-MEASURE, EXPECTED-EXPRESSION-FOUND-COMMA-INSTEAD, EXPECTED-A-BLOCK}
 use Rattle.runtime.specs.declared.parser.Completed.{Completed}
-use Rattle.runtime.specs.declared.parser.Done.{Done}
 use Rattle.runtime.specs.Acts.{Acts, Acts.done, ◌>>=◌, ◌>>◌, at, at_ts, nth, current, eat, bump, bump_any, expect, must, start, complete, err_and_bump, goes_on, Turn, Turn.more, Turn.last, repeats}
-use Rattle.grammar.specs.declared.Got.{Got}
-use Rattle.grammar.specs.declared.Got.TheVariants.{Is, Nothing}
-use Rattle.grammar.specs.declared.Parsed.{Parsed}
 use Rattle.grammar.specs.declared.Next.{Next}
 use Rattle.grammar.specs.declared.Next.TheVariants.{Semi, Comma, Stop}
 use Rattle.grammar.specs.Grammar.{Counted, when, just, fail, fail_if_at, is_blocklike}
@@ -41,19 +37,19 @@ timing = do
   when (not b) (fail TIMING-AND-IMAGINARY-LITERALS-MUST-BEGIN-WITH)
 
 -- the end of fn atom_expr, line 115: an atom that was made, and whether it is block-like
-abbrev pub node_of : Done → Parsed
-node_of d = record { p = d.p; got = Is d.cm (is_blocklike d.cm.kind) }
+abbrev pub node_of : Completed → Option (Completed × Bool)
+node_of cm = Some (cm, is_blocklike cm.kind)
 
 -- an atom, and whether it is block-like
-abbrev pub node : Acts Completed → Acts Got
+abbrev pub node : Acts Completed → Acts (Option (Completed × Bool))
 node m = do
   cm ← m
-  done (Is cm (is_blocklike cm.kind))
+  done (Some (cm, is_blocklike cm.kind))
 
 -- fn literal, line 22: a literal is never block-like
 -- runs: expr `1`, expr `1 ns`
 -- breaks: expr `"x"`, expr `true ns`
-unfoldable pub literal : Acts Got
+unfoldable pub literal : Acts (Option (Completed × Bool))
 literal = do
   first ← at_ts LITERAL-FIRST
   cond first (do
@@ -67,10 +63,10 @@ literal = do
       complete m LITERAL
       identifier
       cm ← complete m2 TIMING-LITERAL
-      done (Is cm false)) (do
+      done (Some (cm, false))) (do
         bump_any
         cm ← complete m LITERAL
-        done (Is cm false))) (done Nothing)
+        done (Some (cm, false)))) (done None)
 
 -- the arm of fn modified_gate_call_expr, line 146
 unfoldable pub inv_modifier : Acts (Unit {0})
@@ -219,8 +215,8 @@ module _ (deeper : Counted) where
     cond go (do
       g ← expr deeper
       elim g [
-        | Nothing ↦ done (last (true, x.1))
-        | Is cm block ↦ (do
+        | None ↦ done (last (true, x.1))
+        | Some (cm, block) ↦ (do
           comma ← tuple_next x.1
           done (more (true, comma)))
       ]) (done (last x))
@@ -244,8 +240,8 @@ module _ (deeper : Counted) where
     cond go (do
       g ← expr deeper
       elim g [
-        | Nothing ↦ done (last x)
-        | Is cm block ↦ (do
+        | None ↦ done (last x)
+        | Some (cm, block) ↦ (do
           next ← array_next x.0 x.1
           elim next [
             | Semi ↦ done (more (false, true))
@@ -309,7 +305,7 @@ module _ (deeper : Counted) where
   -- fn atom_expr, line 80: the match on the token here, of which `la` is the next
   -- runs: expr `a`, expr `1`
   -- breaks: expr `*`, expr `(`
-  unfoldable pub atom_of : ℕ → ℕ → Acts Got
+  unfoldable pub atom_of : ℕ → ℕ → Acts (Option (Completed × Bool))
   atom_of k la =
       cond (eqb k HARDWAREIDENT) (node hardware_qubit)
       (cond (eqb k L-PAREN) (node tuple_expr)
@@ -323,19 +319,19 @@ module _ (deeper : Counted) where
       (cond (eqb k IDENT && one_of QUBIT-FIRST la) (node gate_call_expr)
       (cond (eqb k IDENT) (node identifier) (do
         err_and_bump ATOM-EXPR-EXPECTED-EXPRESSION
-        done Nothing)))))))))))
+        done None)))))))))))
 
-  unfoldable pub atom_expr : Acts Got
+  unfoldable pub atom_expr : Acts (Option (Completed × Bool))
   atom_expr = do
     g ← literal
     elim g [
-      | Is cm block ↦ done (Is cm false)
-      | Nothing ↦ (do
+      | Some (cm, block) ↦ done (Some (cm, false))
+      | None ↦ (do
         la ← nth 1
         k ← current
         cond (one_of CLASSICAL-TYPES k) (do
           cm ← cast_expr
-          done (Is cm false)) (do
+          done (Some (cm, false))) (do
             k ← current
             atom_of k la))
     ]

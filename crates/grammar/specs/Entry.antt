@@ -1,11 +1,9 @@
 -- The depth, and the three entries: `mod entry` of src/grammar.rs, line 51, and the two that the port adds.
 -- Assumes nothing: these are definitions.
-use Rattle.std.specs.Prelude.{false, ℕ, zero, suc}
+use Rattle.std.specs.Prelude.{false, ℕ, zero, suc, None}
 use Rattle.kinds.specs.Kinds.{SOURCE-FILE}
 use Rattle.runtime.specs.Acts.{Acts, Acts.done, ◌>>=◌, ◌>>◌, start, complete, stop}
 use Rattle.runtime.specs.declared.parser.Stop.TheVariants.{Deep}
-use Rattle.grammar.specs.declared.Mark.TheVariants.{Fresh}
-use Rattle.grammar.specs.declared.Got.TheVariants.{Nothing}
 use Rattle.grammar.specs.Grammar.{Counted, just}
 use Rattle.operators.specs.Operators.{Table}
 use Rattle.grammar.specs.Expressions as E
@@ -21,7 +19,7 @@ later deeper = record { atom_expr = A.atom_expr deeper; arg_list_gate_call_qubit
 unfoldable pub counted : Table → ℕ → Counted
 counted ops zero =
     record {
-      expr_bp = λ m prefer bp. (stop Deep >> done Nothing);
+      expr_bp = λ m prefer bp. (stop Deep >> done None);
       stmt = stop Deep;
       type_spec = stop Deep;
       complex_type_spec = stop Deep;
@@ -57,4 +55,4 @@ one_item ops = I.item (counted ops deepest) false
 
 -- one call of `expr_bp`
 unfoldable pub one_expression : Table → Acts (Unit {0})
-one_expression ops = just ((counted ops deepest).expr_bp Fresh false 1)
+one_expression ops = just ((counted ops deepest).expr_bp None false 1)

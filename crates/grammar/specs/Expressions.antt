@@ -1,28 +1,22 @@
 -- src/grammar/expressions.rs. Each definition has the name of its function there. Assumes nothing: these are definitions.
-use Rattle.std.specs.Prelude.{Bool, true, false, not, ◌&&◌, cond, ℕ, eqb, ltb}
+use Rattle.std.specs.Prelude.{Bool, true, false, not, ◌&&◌, cond, ℕ, eqb, ltb, Option, Some, None, Result, Ok, Err}
 use Rattle.kinds.specs.Membership.{one_of}
 use Rattle.kinds.specs.Kinds.{SEMICOLON, COMMA, COLON, EQ, L-PAREN, R-PAREN, L-BRACK, R-BRACK, L-CURLY, R-CURLY, IDENT, HARDWAREIDENT, PRAGMA, ANNOTATION, LET-KW, ARRAY-KW, QUBIT-KW, COMPLEX-TY, FLOAT-TY, RANGE-EXPR, PRAGMA-STATEMENT, ANNOTATION-STATEMENT, ASSIGNMENT-STMT, EXPR-STMT, LET-STMT, IDENTIFIER, INDEXED-IDENTIFIER, BIN-EXPR, PREFIX-EXPR, GATE-CALL-EXPR, CALL-EXPR, ARRAY-TYPE, SCALAR-TYPE, QUBIT-TYPE, DESIGNATOR, NAME, INDEX-EXPR, SET-EXPRESSION, INDEX-OPERATOR, EXPRESSION-LIST, ARG-LIST}
 use Rattle.kinds.specs.Sets.{EXPR-FIRST, EXPR-RECOVERY-SET, CLASSICAL-TYPES, TYPES, QUBIT-FIRST, PREFIX-OPS, CAST-NEXT, ASSIGNABLE, UNINDEXED, ARRAY-BASES, NO-INTEGERS}
 use Rattle.kinds.specs.Messages.{EXPECTING-COLON-IN-RANGE-EXPRESSION, STMT-EXPECTED-EXPRESSION-TYPE-DECLARATION-OR-LET, EXPECTING-SEMICOLON-TERMINATING-STATEMENT, EXPR-BP-EXPECTED-EXPRESSION, ASSIGNMENT-STATEMENT-FOUND-WHERE-EXPRESSION-EXPECTED, ILLEGAL-LHS-IN-ASSIGNMENT, INDEXING-INTO-LITERAL-IS-NOT-ALLOWED, EXPECTED-TYPE-NAME, ILLEGAL-BASE-TYPE-FOR-ARRAY, EXPECTING-FLOAT-IN-COMPLEX-DESIGNATOR, FOUND-DESIGNATOR-IN-HARDWARE-QUBIT-DECLARATION, LITERAL-TYPE-DESIGNATOR-MUST-BE-AN-INTEGER, EXPECTING-PARAMETER-NAME}
 use Rattle.runtime.specs.declared.parser.Completed.{Completed}
 use Rattle.runtime.specs.Acts.{Acts, Acts.done, ◌>>=◌, ◌>>◌, at, at_ts, nth, current, eat, bump, bump_any, expect, must, start, complete, abandon, precede, extend_to, err_recover, err_and_bump, is_refused, goes_on, Turn, Turn.more, Turn.last, repeats}
-use Rattle.grammar.specs.declared.Mark.{Mark}
-use Rattle.grammar.specs.declared.Mark.TheVariants.{Given, Fresh}
-use Rattle.grammar.specs.declared.Offer.{Offer}
-use Rattle.grammar.specs.declared.Offer.TheVariants.{Taken, Back}
-use Rattle.grammar.specs.declared.Got.{Got}
-use Rattle.grammar.specs.declared.Got.TheVariants.{Is, Nothing}
 use Rattle.grammar.specs.Grammar.{Counted, when, just, fail, fail_if_at, fail_unless_at, delimited}
 use Rattle.operators.specs.Operators.{Table, current_op}
 
 -- What this file calls of the files that come after it here: modules do not use one another in a circle.
 pub record Later : Type 0 where
   -- atom.rs, fn atom_expr
-  pub atom_expr : Acts Got
+  pub atom_expr : Acts (Option (Completed × Bool))
   -- params.rs, fn arg_list_gate_call_qubits
   pub arg_list_gate_call_qubits : Acts (Unit {0})
   -- items.rs, fn opt_item: whether there was an item
-  pub opt_item : ℕ → Acts Offer
+  pub opt_item : ℕ → Acts (Result (Unit {0}) ℕ)
 
 -- fn type_name, line 367
 -- runs: item `int`
@@ -35,9 +29,9 @@ type_name = do
     bump k) (fail EXPECTED-TYPE-NAME)
 
 -- `m.unwrap_or_else(|| p.start())`
-unfoldable pub marker : Mark → Acts ℕ
-marker (Given m) = done m
-marker Fresh = start
+unfoldable pub marker : Option ℕ → Acts ℕ
+marker (Some m) = done m
+marker None = start
 
 -- the first test of fn expr_bp, line 228: `p.nth(1)` is looked up only at a classical type that begins no expression
 unfoldable pub lacks_expr : Acts Bool
@@ -140,8 +134,8 @@ module _ (deeper : Counted) where
   -- fn expr, line 14: whether the expression is block-like is not read by its callers
   -- runs: expr `a`
   -- breaks: expr ``, expr `-`
-  abbrev pub expr : Acts Got
-  expr = deeper.expr_bp Fresh false 1
+  abbrev pub expr : Acts (Option (Completed × Bool))
+  expr = deeper.expr_bp None false 1
 
   -- fn range_expr, line 20: no caller reads its answer
   -- runs: item `for i [a:b]`, item `for int i in [0:2:4];`
@@ -151,15 +145,15 @@ module _ (deeper : Counted) where
     m ← start
     must L-BRACK
     bump L-BRACK
-    deeper.expr_bp Fresh false 1
+    deeper.expr_bp None false 1
     b ← at COLON
     cond b (do
       bump COLON
-      deeper.expr_bp Fresh false 1
+      deeper.expr_bp None false 1
       b ← at COLON
       when b (do
         bump COLON
-        just (deeper.expr_bp Fresh false 1))) (fail EXPECTING-COLON-IN-RANGE-EXPRESSION)
+        just (deeper.expr_bp None false 1))) (fail EXPECTING-COLON-IN-RANGE-EXPRESSION)
     expect R-BRACK
     just (complete m RANGE-EXPR)
 
@@ -169,21 +163,21 @@ module _ (deeper : Counted) where
   unfoldable pub expr_or_range_expr : Acts (Unit {0})
   expr_or_range_expr = do
     m ← start
-    deeper.expr_bp Fresh false 1
+    deeper.expr_bp None false 1
     b ← at COLON
     cond b (do
       bump COLON
-      deeper.expr_bp Fresh false 1
+      deeper.expr_bp None false 1
       b ← at COLON
       when b (do
         bump COLON
-        just (deeper.expr_bp Fresh false 1))
+        just (deeper.expr_bp None false 1))
       just (complete m RANGE-EXPR)) (abandon m)
 
   -- fn expr_stmt, line 58
   -- runs: item `a`
   -- breaks: item `-`, item `a = ;`
-  abbrev pub expr_stmt : Mark → Acts Got
+  abbrev pub expr_stmt : Option ℕ → Acts (Option (Completed × Bool))
   expr_stmt m = deeper.expr_bp m true 1
 
   -- fn let_stmt, line 125
@@ -401,25 +395,25 @@ module _ (deeper : Counted) where
           cm ← indexed x.0
           done (more (cm, false, true))) (done (last x)))) (done (last x))
 
-    unfoldable pub postfix_expr : Completed → Bool → Bool → Acts Got
+    unfoldable pub postfix_expr : Completed → Bool → Bool → Acts (Option (Completed × Bool))
     postfix_expr lhs block_like allow_calls = do
       x ← repeats postfix_expr_round (lhs, block_like, allow_calls)
-      done (Is x.0 x.1)
+      done (Some (x.0, x.1))
 
     -- fn lhs, line 298
     -- runs: expr `a`, expr `!a`
     -- breaks: expr `-`, expr `*`
-    unfoldable pub lhs : Bool → Acts Got
+    unfoldable pub lhs : Bool → Acts (Option (Completed × Bool))
     lhs prefer = do
       k ← current
       cond (one_of PREFIX-OPS k) (do
         m ← start
         bump_any
-        deeper.expr_bp Fresh prefer 255
+        deeper.expr_bp None prefer 255
         cm ← complete m PREFIX-EXPR
-        done (Is cm false)) (do
+        done (Some (cm, false))) (do
           g ← later.atom_expr
-          elim g [ Nothing ↦ done Nothing | Is cm block ↦ postfix_expr cm block (not (prefer && block)) ])
+          elim g [ None ↦ done None | Some (cm, block) ↦ postfix_expr cm block (not (prefer && block)) ])
 
     module _ (ops : Table) where
       -- fn expr_bp, line 218: a round of its loop, and the whole
@@ -431,28 +425,28 @@ module _ (deeper : Counted) where
         cond (ltb o.power bp) (done (last lhs)) (do
           m ← precede lhs
           bump o.kind
-          deeper.expr_bp Fresh false o.next
+          deeper.expr_bp None false o.next
           cm ← close_op prefer lhs.kind o.kind m
           done (more cm))
 
-      unfoldable pub expr_bp : Mark → Bool → ℕ → Acts Got
+      unfoldable pub expr_bp : Option ℕ → Bool → ℕ → Acts (Option (Completed × Bool))
       expr_bp given prefer bp = do
         m ← marker given
         lacks ← lacks_expr
         cond lacks (do
           err_recover EXPR-BP-EXPECTED-EXPRESSION EXPR-RECOVERY-SET
           abandon m
-          done Nothing) (do
+          done None) (do
             g ← lhs prefer
             elim g [
-              | Nothing ↦ (do
+              | None ↦ (do
                 abandon m
-                done Nothing)
-              | Is cm block ↦ (do
+                done None)
+              | Some (cm, block) ↦ (do
                 cm ← extend_to cm m
-                cond (prefer && block) (done (Is cm true)) (do
+                cond (prefer && block) (done (Some (cm, true))) (do
                   cm ← repeats (expr_bp_round prefer bp) cm
-                  done (Is cm false)))
+                  done (Some (cm, false))))
             ])
 
     -- the end of fn stmt, line 84: no item stands here, and the marker was handed back
@@ -470,8 +464,8 @@ module _ (deeper : Counted) where
               cond lacks (do
                 err_and_bump STMT-EXPECTED-EXPRESSION-TYPE-DECLARATION-OR-LET
                 abandon m) (do
-                  g ← expr_stmt (Given m)
-                  elim g [ Nothing ↦ done tt | Is cm block ↦ stmt_end cm block ])))
+                  g ← expr_stmt (Some m)
+                  elim g [ None ↦ done tt | Some (cm, block) ↦ stmt_end cm block ])))
 
     -- fn stmt, line 70
     -- runs: item `;`, item `a;`, item `PRAGMA ANNOTATION`
@@ -486,4 +480,4 @@ module _ (deeper : Counted) where
           let_stmt m) (do
             m ← start
             offer ← later.opt_item m
-            elim offer [ Taken ↦ done tt | Back m ↦ no_item m ]))
+            elim offer [ Ok x ↦ done tt | Err m ↦ no_item m ]))

@@ -1,19 +1,17 @@
 -- src/grammar.rs: what the files of the grammar share. Each definition has the name of its function there.
 -- Assumes nothing: these are definitions.
-use Rattle.std.specs.Prelude.{Bool, true, false, not, cond, List, ℕ, eqb}
+use Rattle.std.specs.Prelude.{Bool, true, false, not, cond, List, ℕ, eqb, Option, Some, None}
 use Rattle.kinds.specs.Membership.{one_of}
 use Rattle.kinds.specs.Kinds.{THIN-ARROW, IDENT, HARDWAREIDENT, HARDWARE-QUBIT, NAME, RETURN-SIGNATURE, BLOCK-EXPR}
 use Rattle.kinds.specs.Sets.{EMPTY, SCALAR-TYPES, TYPES}
 use Rattle.kinds.specs.Messages.{EXPECTED-SCALAR-RETURN-TYPE-AFTER-ARROW, EXPECTED-A-NAME}
+use Rattle.runtime.specs.declared.parser.Completed.{Completed}
 use Rattle.runtime.specs.Acts.{Acts, Acts.done, ◌>>=◌, ◌>>◌, at, at_ts, current, bump, expect, start, complete, abandon, error, error_expected, err_recover, goes_on, Turn, Turn.more, Turn.last, repeats}
-use Rattle.grammar.specs.declared.Mark.{Mark}
-use Rattle.grammar.specs.declared.Got.{Got}
-use Rattle.grammar.specs.declared.Got.TheVariants.{Is, Nothing}
 
 -- The calls that count against the depth (docs/COUNTED.md), as the rest of the grammar may make them: what each does with one call
 -- less to spare.
 pub record Counted : Type 0 where
-  pub expr_bp : Mark → Bool → ℕ → Acts Got
+  pub expr_bp : Option ℕ → Bool → ℕ → Acts (Option (Completed × Bool))
   pub stmt : Acts (Unit {0})
   pub type_spec : Acts (Unit {0})
   pub complex_type_spec : Acts (Unit {0})
@@ -101,11 +99,11 @@ separator delim first = do
         done true) (done false))
 
 -- `.is_some()`
-abbrev pub is_some : Got → Bool
-is_some (Is cm block) = true
-is_some Nothing = false
+abbrev pub is_some : (Option (Completed × Bool)) → Bool
+is_some (Some x) = true
+is_some None = false
 
-unfoldable pub delimited_round : ℕ → ℕ → List ℕ → Acts Got → Unit {0} → Acts (Turn (Unit {0}))
+unfoldable pub delimited_round : ℕ → ℕ → List ℕ → Acts (Option (Completed × Bool)) → Unit {0} → Acts (Turn (Unit {0}))
 delimited_round ket delim first parser x = do
   go ← goes_on ket
   cond go (do
@@ -114,7 +112,7 @@ delimited_round ket delim first parser x = do
       another ← separator delim first
       cond another (done (more tt)) (done (last tt))) (done (last tt))) (done (last tt))
 
-unfoldable pub delimited : ℕ → ℕ → Bool → ℕ → List ℕ → Acts Got → Acts (Unit {0})
+unfoldable pub delimited : ℕ → ℕ → Bool → ℕ → List ℕ → Acts (Option (Completed × Bool)) → Acts (Unit {0})
 delimited bra ket consume delim first parser = do
   when consume (bump bra)
   repeats (delimited_round ket delim first parser) tt

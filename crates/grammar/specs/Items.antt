@@ -1,12 +1,10 @@
 -- src/grammar/items.rs. Each definition has the name of its function there. Assumes nothing: these are definitions.
-use Rattle.std.specs.Prelude.{Bool, not, ◌&&◌, cond, List, [], ◌∷◌, ℕ, eqb}
+use Rattle.std.specs.Prelude.{Bool, not, ◌&&◌, cond, List, [], ◌∷◌, ℕ, eqb, Result, Ok, Err}
 use Rattle.kinds.specs.Membership.{one_of}
 use Rattle.kinds.specs.Kinds.{EOF, SEMICOLON, L-PAREN, R-PAREN, L-BRACK, L-CURLY, R-CURLY, EQ, HARDWAREIDENT, STRING, FLOAT-NUMBER, QUBIT-KW, CONST-KW, GATE-KW, BREAK-KW, CONTINUE-KW, END-KW, IF-KW, ELSE-KW, WHILE-KW, FOR-KW, IN-KW, DEF-KW, DEFCAL-KW, CAL-KW, DEFCALGRAMMAR-KW, RESET-KW, BARRIER-KW, O-P-E-N-Q-A-S-M-KW, INCLUDE-KW, SWITCH-KW, CASE-KW, DEFAULT-KW, LET-KW, DELAY-KW, INPUT-KW, OUTPUT-KW, ERROR, CASE-EXPR, SWITCH-CASE-STMT, IF-STMT, WHILE-STMT, FOR-ITERABLE, FOR-STMT, QUANTUM-DECLARATION-STATEMENT, RESET, BREAK-STMT, CONTINUE-STMT, END-STMT, GATE, DEF-CAL, CAST-EXPRESSION, EXPR-STMT, CLASSICAL-DECLARATION-STATEMENT, I-O-DECLARATION-STATEMENT, DEF, FILE-PATH, DEF-CAL-GRAMMAR, INCLUDE, CAL, VERSION, VERSION-STRING, BARRIER, DELAY-STMT, ALIAS-DECLARATION-STATEMENT}
 use Rattle.kinds.specs.Sets.{ITEM-RECOVERY-SET, CLASSICAL-TYPES, QUBIT-FIRST}
 use Rattle.kinds.specs.Messages.{EXPECTED-STATEMENT-FOUND-SEMICOLON, UNMATCHED-R-CURLY, EXPECTING-CASE-KEYWORD, EXPECTING-NAME-OF-QUBIT-OR-REGISTER-TO, QUANTUM-TYPE-FOUND-IN-INPUT-OUTPUT-DECLARATION, EXPECTED-FUNCTION-ARGUMENTS-IN-DEF, EXPECTED-A-PATH-TO-A-FILE}
 use Rattle.runtime.specs.Acts.{Acts, Acts.done, ◌>>=◌, ◌>>◌, at, nth, current, eat, bump, bump_any, expect, must, start, complete, abandon, err_recover, err_and_bump, Turn, Turn.more, Turn.last, repeats}
-use Rattle.grammar.specs.declared.Offer.{Offer}
-use Rattle.grammar.specs.declared.Offer.TheVariants.{Taken, Back}
 use Rattle.grammar.specs.Grammar.{Counted, when, just, fail, fail_unless_at, name, name_r, opt_ret_type}
 use Rattle.grammar.specs.Expressions.{expr, range_expr, set_expression, expr_block_contents, designator, qubit_type_spec, var_name}
 use Rattle.grammar.specs.Params.{param_list_gate_params, param_list_gate_qubits, param_list_def_params, param_list_defcal_params, param_list_defcal_qubits, arg_list_gate_call_qubits, arg_gate_call_qubit}
@@ -396,20 +394,20 @@ module _ (deeper : Counted) where
       ∷ statements_more m
 
   -- the statement that begins with a kind takes the marker; where there is none it is handed back
-  abbrev pub beginning : ℕ → List (ℕ × Acts (Unit {0})) → ℕ → Acts Offer
-  beginning m [] k = done (Back m)
-  beginning m (r ∷ rs) k = cond (eqb k r.0) (r.1 >> done Taken) (beginning m rs k)
+  abbrev pub beginning : ℕ → List (ℕ × Acts (Unit {0})) → ℕ → Acts (Result (Unit {0}) ℕ)
+  beginning m [] k = done (Err m)
+  beginning m (r ∷ rs) k = cond (eqb k r.0) (r.1 >> done (Ok tt)) (beginning m rs k)
 
   -- the arms of fn opt_item from line 96 on
-  abbrev pub opt_item_more : ℕ → ℕ → Acts Offer
+  abbrev pub opt_item_more : ℕ → ℕ → Acts (Result (Unit {0}) ℕ)
   opt_item_more m k = beginning m (statements_more m) k
 
   -- whether there was an item: `Ok(())`, or `Err(m)` with the marker as it was
-  unfoldable pub opt_item : ℕ → Acts Offer
+  unfoldable pub opt_item : ℕ → Acts (Result (Unit {0}) ℕ)
   opt_item m = do
     la ← nth 1
     k ← current
-    cond (declares k la) (classical_declaration_stmt m >> done Taken) (do
+    cond (declares k la) (classical_declaration_stmt m >> done (Ok tt)) (do
       k ← current
       beginning m (statements m) k)
 
@@ -433,7 +431,7 @@ module _ (deeper : Counted) where
   item stop_on_rcurly = do
     m ← start
     offer ← opt_item m
-    elim offer [ Taken ↦ after_item | Back m ↦ unmatched stop_on_rcurly m ]
+    elim offer [ Ok x ↦ after_item | Err m ↦ unmatched stop_on_rcurly m ]
 
   -- fn source_file_contents, line 10: a round of its loop, and the whole
   -- runs: source ``, source `break; end;`

@@ -5,7 +5,7 @@ use Rattle.kinds.specs.Kinds.{EOF, SEMICOLON, COMMA, L-PAREN, R-PAREN, L-BRACK, 
 use Rattle.kinds.specs.Sets.{PARAM-FIRST, TYPES}
 use Rattle.kinds.specs.Messages.{EXPECTED-VALUE-PARAMETER, EXPECTED-COMMA, EXPECTED-ONE-OR-MORE-PARAMETERS, EXPECTED-PARAMETER-NAME, EXPECTED-NAME-IN-QUBIT-ARGUMENT}
 use Rattle.input.specs.Input.{Env}
-use Rattle.runtime.specs.declared.parser.Parser.{Parser}
+use Rattle.runtime.specs.State.{Parser}
 use Rattle.runtime.specs.Acts.{sees, Acts, Acts.done, ◌>>=◌, ◌>>◌, at, at_ts, current, bump, expect, start, complete, abandon, Turn, Turn.more, Turn.last, repeats}
 use Rattle.grammar.specs.declared.How.{How}
 use Rattle.grammar.specs.declared.How.TheVariants.{Expr, Qubit, Typed, Untyped}

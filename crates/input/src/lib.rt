@@ -2,7 +2,8 @@
 #![tactic(auto)]
 
 ghost use Rattle.std.specs.Prelude.{◌≡◌, ◌+◌, ◌≤◌, min, leb, length};
-ghost use Rattle.input.specs.Input.{env, most_tokens, seen, is_joint};
+ghost use Rattle.input.specs.Input.{most_tokens, seen, is_joint};
+ghost use Rattle.input.specs.Lent.{tokens};
 ghost use Rattle.input.specs.Glue.{at_composite2, at_composite3, stands_at, parts_of, is_one, raw_count};
 
 use kinds::syntax_kind_enum as k;
@@ -19,6 +20,7 @@ pub enum Parts {
 }
 
 // The kind at a position: EOF beyond the last token, and everywhere once the run is refused.
+// Stays (promise): the refusal is a number, here and below, since `kind` and `stands_at` say what every one of them makes of a look (`seen`).
 pub fn kind(kinds: &[u16], refused: u32, i: usize) -> u16
     ensures { result ≡ seen kinds.now refused i }
 {
@@ -51,55 +53,49 @@ fn is_joint(joints: &[u64], n: usize) -> bool
     false
 }
 
-fn at_composite2(kinds: &[u16], joints: &[u64], refused: u32, i: usize, k1: u16, k2: u16) -> bool
-    requires { i ≤ most_tokens + 3 }
-    ensures { result ≡ at_composite2 (env kinds.now joints.now) refused i k1 k2 }
-{
-    if kind(kinds, refused, i) != k1 {
-        return false;
-    }
-    if kind(kinds, refused, i + 1) != k2 {
-        return false;
-    }
-    is_joint(joints, i)
+// The lent tokens: the kinds, and the words of their joint bits.
+#[derive(Clone, Copy)]
+pub struct Input<'a> {
+    pub kinds: &'a [u16],
+    pub joints: &'a [u64],
 }
 
-fn at_composite3(
-    kinds: &[u16],
-    joints: &[u64],
-    refused: u32,
-    i: usize,
-    k1: u16,
-    k2: u16,
-    k3: u16,
-) -> bool
-    requires { i ≤ most_tokens + 3 }
-    ensures { result ≡ at_composite3 (env kinds.now joints.now) refused i k1 k2 k3 }
-{
-    if kind(kinds, refused, i) != k1 {
-        return false;
+impl<'a> Input<'a> {
+    // The kind at a position, in a run with this refusal.
+    pub fn kind(&self, refused: u32, i: usize) -> u16
+        ensures { result ≡ seen self.now.kinds.now refused i }
+    {
+        kind(self.kinds, refused, i)
     }
-    if kind(kinds, refused, i + 1) != k2 {
-        return false;
-    }
-    if kind(kinds, refused, i + 2) != k3 {
-        return false;
-    }
-    if is_joint(joints, i) {
-        return is_joint(joints, i + 1);
-    }
-    false
-}
 
-// Whether the tokens at a position are these parts.
-pub fn stands_at(kinds: &[u16], joints: &[u64], refused: u32, i: usize, parts: Parts) -> bool
-    requires { i ≤ most_tokens + 3 }
-    ensures { result ≡ stands_at (env kinds.now joints.now) refused i parts }
-{
-    match parts {
-        Parts::One(k1) => kind(kinds, refused, i) == k1,
-        Parts::Two(k1, k2) => at_composite2(kinds, joints, refused, i, k1, k2),
-        Parts::Three(k1, k2, k3) => at_composite3(kinds, joints, refused, i, k1, k2, k3),
+    fn at_composite2(&self, refused: u32, i: usize, k1: u16, k2: u16) -> bool
+        requires { i ≤ most_tokens + 3 }
+        ensures { result ≡ at_composite2 (tokens self.now) refused i k1 k2 }
+    {
+        self.kind(refused, i) == k1 && self.kind(refused, i + 1) == k2 && is_joint(self.joints, i)
+    }
+
+    fn at_composite3(&self, refused: u32, i: usize, k1: u16, k2: u16, k3: u16) -> bool
+        requires { i ≤ most_tokens + 3 }
+        ensures { result ≡ at_composite3 (tokens self.now) refused i k1 k2 k3 }
+    {
+        self.kind(refused, i) == k1
+            && self.kind(refused, i + 1) == k2
+            && self.kind(refused, i + 2) == k3
+            && is_joint(self.joints, i)
+            && is_joint(self.joints, i + 1)
+    }
+
+    // Whether the tokens at a position are these parts.
+    pub fn stands_at(&self, refused: u32, i: usize, parts: Parts) -> bool
+        requires { i ≤ most_tokens + 3 }
+        ensures { result ≡ stands_at (tokens self.now) refused i parts }
+    {
+        match parts {
+            Parts::One(k1) => self.kind(refused, i) == k1,
+            Parts::Two(k1, k2) => self.at_composite2(refused, i, k1, k2),
+            Parts::Three(k1, k2, k3) => self.at_composite3(refused, i, k1, k2, k3),
+        }
     }
 }
 

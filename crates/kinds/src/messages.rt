@@ -1,5 +1,6 @@
 // The codes of error messages (docs/MESSAGES.md), each under the first words of its text.
 // Written by tools/lists; ./check compares it with the source.
+// Stays (C interface): numbers, which stand in events and step files.
 pub const EXPECTED: u16 = 1;
 
 pub const EXPECTED_SCALAR_RETURN_TYPE_AFTER_ARROW: u16 = 2;

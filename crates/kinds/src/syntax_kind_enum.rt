@@ -1,5 +1,6 @@
 // The kinds of src/syntax_kind/syntax_kind_enum.rs, each under its name there: its number is its place in that enum.
 // Written by tools/lists; ./check compares it with the source.
+// Stays (C interface): numbers, which C lends and reads; each function that takes a kind says what it makes of every number.
 pub const TOMBSTONE: u16 = 0;
 
 pub const EOF: u16 = 1;

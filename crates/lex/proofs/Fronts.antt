@@ -14,9 +14,6 @@ pub record Front (room₀ room whole rest : List ℕ) (n : ℕ) : Type 0 where
   pub now : room ≡ done ++ drop n room₀
   pub told : whole ≡ done ++ rest
 
-pub front-begin : (room whole : List ℕ) → Front room room whole whole 0
-front-begin room whole = record { done = []; size = refl; now = refl; told = refl }
-
 put_one : (done rest : List ℕ) (a x : ℕ) → set (done ++ a ∷ rest) (length done) x ≡ (done ++ x ∷ []) ++ rest
 put_one [] rest a x = refl
 put_one (y ∷ done) rest a x = ap (λ (l : List ℕ). y ∷ l) (put_one done rest a x)

@@ -1,27 +1,13 @@
 -- What the small tests come to. Assumes nothing.
 use mathlib.Core.Path.{◌≡◌, refl}
-use mathlib.Core.Bool.{Bool, true, false, cond}
+use mathlib.Core.Bool.{Bool, true, false}
 use Prim.Native.Nat.{ℕ, ◌+◌, ◌*◌, ◌/◌, ◌≤◌, ◌<◌}
 use native.Mathlib.Omega.{arith}
-use lib.Dec.{eqb, leb}
-use borrow.Author.Tests.{leb-true, le-leb, lt-leb, eq-eqb}
-use Rattle.kinds.specs.Kinds.{WHITESPACE, COMMENT}
-use Rattle.kinds.specs.Membership.{both, one_of}
+use lib.Dec.{leb}
+use borrow.Author.Tests.{leb-true, le-leb, lt-leb}
+use Rattle.kinds.specs.Membership.{both}
 use Rattle.laws.proofs.Tests.{apart}
-use Rattle.lex.specs.Lexing.{is_trivia, fit}
-
--- a kind is trivia where it is the first or the second
-pub first-trivia : (k : ℕ) → k ≡ WHITESPACE → eqb k WHITESPACE ≡ is_trivia k
-unfolding one_of
-first-trivia k e = rw (eq-eqb k WHITESPACE e)
-
-pub second-trivia : (k : ℕ) → eqb k WHITESPACE ≡ false → eqb k COMMENT ≡ is_trivia k
-unfolding one_of
-second-trivia k e = by (eqb k COMMENT) refl
-  where
-    by : (x : Bool) → eqb k COMMENT ≡ x → eqb k COMMENT ≡ cond (eqb k WHITESPACE) true (cond (eqb k COMMENT) true false)
-    by true t = rw (e, t)
-    by false t = rw (e, t)
+use Rattle.lex.specs.Lexing.{fit}
 
 -- rooms hold what fits
 pub few_words : (all some kinds joints tokens : ℕ) → tokens < 2 * all → false ≡ fit all some kinds joints tokens
@@ -29,17 +15,6 @@ few_words all some kinds joints tokens h = rw (lt-leb (2 * all) tokens h)
 
 pub few-kinds : (all some kinds joints tokens : ℕ) → 2 * all ≤ tokens → kinds < some → false ≡ fit all some kinds joints tokens
 few-kinds all some kinds joints tokens g h = rw (le-leb (2 * all) tokens g, lt-leb some kinds h)
-
-pub joints-left : (all some kinds joints tokens : ℕ) → 2 * all ≤ tokens → some ≤ kinds → leb ((some + 63) / 64) joints ≡ fit all some kinds joints tokens
-joints-left all some kinds joints tokens g h = rw (le-leb (2 * all) tokens g, le-leb some kinds h)
-
--- what is counted by a test grows by one at most
-pub one_more : {r : ℕ} (n : ℕ) (x : Bool) → r ≡ cond x n (n + 1) → r ≤ n + 1
-one_more {r} n x e = by x e
-  where
-    by : (x : Bool) → r ≡ cond x n (n + 1) → r ≤ n + 1
-    by true e = omega (arith, e)
-    by false e = omega (arith, e)
 
 -- what fits is held
 pub record Held (all some kinds joints tokens : ℕ) : Type 0 where

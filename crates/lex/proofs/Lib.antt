@@ -1,4 +1,6 @@
+pub mod Tables
 pub mod Scan
+pub mod Taken
 pub mod Bits
 pub mod Laws
 pub mod Fronts

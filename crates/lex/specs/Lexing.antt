@@ -4,7 +4,7 @@ use Rattle.kinds.specs.Kinds.{WHITESPACE, COMMENT}
 use Rattle.kinds.specs.Membership.{both, one_of}
 use Rattle.lexical.specs.Lexed.{Token, nothing, token, lexed, words}
 use Rattle.lexical.specs.Rules.{rules}
-use Rattle.lex.specs.declared.Answer.{Answer}
+use Rattle.lex.specs.Answer.{Answer}
 
 -- `is_trivia`
 abbrev pub is_trivia : ℕ → Bool

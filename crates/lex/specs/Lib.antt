@@ -1,2 +1,4 @@
+pub mod Answer
 pub mod Lexing
 pub mod Inside
+pub mod Left

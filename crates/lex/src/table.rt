@@ -18,7 +18,7 @@ pub const LAST: usize = 5016;
 pub const BODY: usize = 114;
 
 // The class of each byte.
-pub const CLASSES: [u8; 256] = [
+pub static CLASSES: [u8; 256] = [
     0, 0, 0, 0, 0, 0, 0, 0, 0, 1, 2, 0, 0, 2, 0, 0, 0, 0, 0, 0, 0, 0, 0, 0, 0, 0, 0, 0, 0, 0, 0, 0,
     3, 4, 5, 6, 7, 8, 9, 10, 11, 12, 13, 14, 15, 16, 17, 18, 19, 20, 21, 21, 21, 21, 21, 21, 22,
     22, 23, 24, 25, 26, 27, 28, 29, 30, 31, 32, 32, 33, 32, 34, 34, 34, 34, 34, 34, 35, 36, 37, 38,
@@ -31,7 +31,8 @@ pub const CLASSES: [u8; 256] = [
 ];
 
 // A row for each state.
-pub const NEXTS: [u64; ENTRIES] = [
+// Stays (promise): four numbers to a word, as the definitions have them that this is equal to (`part`, `entry` and `next-rows` of Table.antt).
+pub static NEXTS: [u64; ENTRIES] = [
     0,
     0,
     0,

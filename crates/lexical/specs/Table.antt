@@ -369,7 +369,7 @@ pub record State (s : ℕ) : Type 0 where
   pub whole : s % width ≡ 0
   pub inside : s / width < state-count
 
--- what is lent is the table
+-- what the code reads is the table
 pub record Table (classes nexts : List ℕ) : Type 0 where
   pub classes-are : classes ≡ class-list
   pub nexts-are : nexts ≡ next-list

@@ -8,8 +8,9 @@ use mathlib.Core.List.{List, [], ◌∷◌}
 use lib.Dec.{eqb, ltb}
 use lib.ListN.{length, get_or, replicate}
 use borrow.Author.Tests.{eqb-true}
-use Rattle.lists.specs.declared.Answer.{Answer}
-use Rattle.lists.specs.declared.Answer.TheVariants.{Done, TooLong, Faulty, NoRoom}
+use Rattle.std.specs.Prelude.{Result, Ok, Err}
+use Rattle.lists.specs.declared.Refusal.{Refusal}
+use Rattle.lists.specs.declared.Refusal.TheVariants.{TooLong, Faulty, NoRoom}
 use Rattle.event.specs.declared.Event.{Event}
 use Rattle.event.specs.declared.Event.TheVariants.{Start, NoEvent}
 use Rattle.event.specs.Event.{events_of, words_of, tombstone}
@@ -33,30 +34,30 @@ use Rattle.listed.proofs.Places.{own-once}
 differ : (a b : Numbers) → a ≡ b → (a.code ≡ b.code → ⊥) → ⊥
 differ a b e n = n (ap (λ (x : Numbers). x.code) e)
 
-pub numbers-unique : (a b : Answer) → numbers a ≡ numbers b → a ≡ b
-numbers-unique (Done m) (Done n) e = ap Done (ap (λ (x : Numbers). x.place) e)
-numbers-unique (Done m) TooLong e = absurd (differ _ _ e (λ z. omega arith))
-numbers-unique (Done m) (Faulty n) e = absurd (differ _ _ e (λ z. omega arith))
-numbers-unique (Done m) (NoRoom n) e = absurd (differ _ _ e (λ z. omega arith))
-numbers-unique TooLong (Done n) e = absurd (differ _ _ e (λ z. omega arith))
-numbers-unique TooLong TooLong e = refl
-numbers-unique TooLong (Faulty n) e = absurd (differ _ _ e (λ z. omega arith))
-numbers-unique TooLong (NoRoom n) e = absurd (differ _ _ e (λ z. omega arith))
-numbers-unique (Faulty m) (Done n) e = absurd (differ _ _ e (λ z. omega arith))
-numbers-unique (Faulty m) TooLong e = absurd (differ _ _ e (λ z. omega arith))
-numbers-unique (Faulty m) (Faulty n) e = ap Faulty (ap (λ (x : Numbers). x.place) e)
-numbers-unique (Faulty m) (NoRoom n) e = absurd (differ _ _ e (λ z. omega arith))
-numbers-unique (NoRoom m) (Done n) e = absurd (differ _ _ e (λ z. omega arith))
-numbers-unique (NoRoom m) TooLong e = absurd (differ _ _ e (λ z. omega arith))
-numbers-unique (NoRoom m) (Faulty n) e = absurd (differ _ _ e (λ z. omega arith))
-numbers-unique (NoRoom m) (NoRoom n) e = ap NoRoom (ap (λ (x : Numbers). x.place) e)
+pub numbers-unique : (a b : Result ℕ Refusal) → numbers a ≡ numbers b → a ≡ b
+numbers-unique (Ok m) (Ok n) e = ap (λ (k : ℕ). Ok k) (ap (λ (x : Numbers). x.place) e)
+numbers-unique (Ok m) (Err TooLong) e = absurd (differ _ _ e (λ z. omega arith))
+numbers-unique (Ok m) (Err (Faulty n)) e = absurd (differ _ _ e (λ z. omega arith))
+numbers-unique (Ok m) (Err (NoRoom n)) e = absurd (differ _ _ e (λ z. omega arith))
+numbers-unique (Err TooLong) (Ok n) e = absurd (differ _ _ e (λ z. omega arith))
+numbers-unique (Err TooLong) (Err TooLong) e = refl
+numbers-unique (Err TooLong) (Err (Faulty n)) e = absurd (differ _ _ e (λ z. omega arith))
+numbers-unique (Err TooLong) (Err (NoRoom n)) e = absurd (differ _ _ e (λ z. omega arith))
+numbers-unique (Err (Faulty m)) (Ok n) e = absurd (differ _ _ e (λ z. omega arith))
+numbers-unique (Err (Faulty m)) (Err TooLong) e = absurd (differ _ _ e (λ z. omega arith))
+numbers-unique (Err (Faulty m)) (Err (Faulty n)) e = ap (λ (k : ℕ). Err (Faulty k)) (ap (λ (x : Numbers). x.place) e)
+numbers-unique (Err (Faulty m)) (Err (NoRoom n)) e = absurd (differ _ _ e (λ z. omega arith))
+numbers-unique (Err (NoRoom m)) (Ok n) e = absurd (differ _ _ e (λ z. omega arith))
+numbers-unique (Err (NoRoom m)) (Err TooLong) e = absurd (differ _ _ e (λ z. omega arith))
+numbers-unique (Err (NoRoom m)) (Err (Faulty n)) e = absurd (differ _ _ e (λ z. omega arith))
+numbers-unique (Err (NoRoom m)) (Err (NoRoom n)) e = ap (λ (k : ℕ). Err (NoRoom k)) (ap (λ (x : Numbers). x.place) e)
 
 -- two answers that meet the contract of `check` are equal
-pub check-unique : (ws : List ℕ) (a b : Answer) → numbers a ≡ checked ws → numbers b ≡ checked ws → a ≡ b
+pub check-unique : (ws : List ℕ) (a b : Result ℕ Refusal) → numbers a ≡ checked ws → numbers b ≡ checked ws → a ≡ b
 check-unique ws a b p q = numbers-unique a b (p ∙ sym q)
 
 -- and two that meet that of `resolve`, with the lists and rooms that they leave
-pub resolve-unique : (ws out : List ℕ) (a b : Answer) (ws₁ ws₂ out₁ out₂ : List ℕ)
+pub resolve-unique : (ws out : List ℕ) (a b : Result ℕ Refusal) (ws₁ ws₂ out₁ out₂ : List ℕ)
     → resolved ws out ≡ ends (numbers a) ws₁ out₁ → resolved ws out ≡ ends (numbers b) ws₂ out₂ → (a ≡ b) × (ws₁ ≡ ws₂) × (out₁ ≡ out₂)
 resolve-unique ws out a b ws₁ ws₂ out₁ out₂ p q =
     let n : numbers a ≡ numbers b = cc in

@@ -2,20 +2,18 @@
 // public for that alone.
 #![tactic(auto)]
 
-ghost use Rattle.std.specs.Prelude.{◌≡◌, false, suc, ◌/◌, ◌<◌, ◌≤◌, min, length, get_or, drop};
+ghost use Rattle.std.specs.Prelude.{◌≡◌, false, suc, ◌/◌, ◌<◌, ◌≤◌, length, get_or, drop};
 ghost use Rattle.event.specs.Event.{event_words, events_of, none, is_start};
-ghost use Rattle.lists.specs.Answer.{numbers};
+ghost use Rattle.lists.specs.Answer.{numbers, refused};
 ghost use Rattle.lists.specs.Check.{lands, checked};
 ghost use Rattle.lists.specs.Inside.{Traits, Passed, PassedAnyway, Measures};
 
 use event::{ERROR, EVENT_WORDS, Event, MOST_EVENTS, START, decode};
 use own::{cost, leads};
 
-// What a check or a resolution says; `numbers` in specs/Answer has the number and place of docs/RULES.md, section 3, for each.
-#[derive(Clone, Copy)]
-pub enum Answer {
-    // done: the events, or the bytes
-    Done(usize),
+// Why a list is refused; `numbers` in specs/Answer has the number and place of docs/RULES.md, section 3, for each.
+#[derive(Clone, Copy, PartialEq, Eq, Debug)]
+pub enum Refusal {
     // more than 65,536 events
     TooLong,
     // not well formed: the first faulty event
@@ -24,49 +22,66 @@ pub enum Answer {
     NoRoom(usize),
 }
 
-impl Answer {
+// Stays (plainer): the numbers of this crate's refusals; a trait over the four would say each case twice, in its definition and here.
+impl Refusal {
     // The number of docs/RULES.md.
     pub fn code(self) -> u32
-        ensures { result ≡ (numbers self).code }
+        ensures { result ≡ (refused self).code }
     {
         match self {
-            Answer::Done(_) => 0,
-            Answer::TooLong => 2,
-            Answer::Faulty(_) => 9,
-            Answer::NoRoom(_) => 10,
+            Refusal::TooLong => 2,
+            Refusal::Faulty(_) => 9,
+            Refusal::NoRoom(_) => 10,
         }
     }
 
     // Its place.
     pub fn place(self) -> usize
-        ensures { result ≡ (numbers self).place }
+        ensures { result ≡ (refused self).place }
     {
         match self {
-            Answer::Done(n) => n,
-            Answer::TooLong => 0,
-            Answer::Faulty(i) => i,
-            Answer::NoRoom(n) => n,
+            Refusal::TooLong => 0,
+            Refusal::Faulty(i) => i,
+            Refusal::NoRoom(n) => n,
         }
     }
 }
 
-// What an event comes to, with some nodes open before it: the nodes open past it and the bytes of what it asks for itself; or it is faulty.
-#[derive(Clone, Copy)]
-pub enum Past {
-    On(usize, usize),
-    Stuck,
+// The number of a check or a resolution, 0 where it is done.
+// Stays (C interface): C has a number and a place for either outcome.
+pub fn code(a: Result<usize, Refusal>) -> u32
+    ensures { result ≡ (numbers a).code }
+{
+    match a {
+        Ok(_) => 0,
+        Err(e) => e.code(),
+    }
 }
 
-// What a list comes to: the bytes of its steps, or what a check says.
-#[derive(Clone, Copy)]
-pub enum Measured {
-    Passes(usize),
-    Fails(Answer),
+// Its place: the events or the bytes where it is done.
+pub fn place(a: Result<usize, Refusal>) -> usize
+    ensures { result ≡ (numbers a).place }
+{
+    match a {
+        Ok(n) => n,
+        Err(e) => e.place(),
+    }
 }
 
-// What the first word of a start, a finish or a token says of its event, by its tag and whether it has a kind: a bit for each second
-// word that it may have (the last for 4 and more), 32 times one more than the nodes it opens, and 128 times the bytes of what it asks
-// for itself. A table, so that the check has no branch by the sort of these. An error, which is rare, goes by `decode`.
+// What an event that is not faulty comes to: the nodes open past it, and the bytes of what it asks for itself.
+#[derive(Clone, Copy)]
+pub struct Past {
+    pub held: usize,
+    pub bytes: usize,
+}
+
+// The traits of events by their class: twice the tag, and one more where there is a kind. A table, so that the check has no branch by the
+// sort of these.
+static TRAITS: [usize; 8] = [0, 0, 63, 863, 513, 0, 942, 942];
+
+// What the first word of a start, a finish or a token says of its event: a bit for each second word that it may have (the last for 4 and
+// more), 32 times one more than the nodes it opens, and 128 times the bytes of what it asks for itself. An error, which is rare, goes by
+// `decode`.
 fn traits(a: u32) -> usize
     requires le_a { 65536 ≤ a }
     requires a_bound { a < 262144 }
@@ -74,24 +89,7 @@ fn traits(a: u32) -> usize
 {
     let tag = 2 * (a / 65536);
     let class = if a % 65536 == 0 { tag } else { tag + 1 };
-    match class % 8 {
-        0 => 0,
-        1 => 0,
-        2 => 63,
-        3 => 863,
-        4 => 513,
-        5 => 0,
-        6 => 942,
-        7 => 942,
-        _ => 0,
-    }
-}
-
-// A second word, or 4 for all above.
-fn clip(b: u32) -> u32
-    ensures { result ≡ min b 4 }
-{
-    if b < 4 { b } else { 4 }
+    TRAITS[(class % 8) as usize]
 }
 
 // Whether distance d from event i is none, or lands on a start in the list.
@@ -110,25 +108,29 @@ fn lands_on(words: &[u32], i: usize, d: u32) -> bool
 }
 
 // What an event that is no start comes to, with `held` nodes open before it.
-fn pass_plain(e: Event, held: usize) -> Past
+fn pass_plain(e: Event, held: usize) -> Option<Past>
     requires { is_start e ≡ false }
     ensures { PassedAnyway e held result }
 {
     match e {
-        Event::Start(_, _) => Past::Stuck,
         Event::Finish => if held == 0 {
-            Past::Stuck
+            None
         } else {
-            Past::On(held - 1, cost(e))
+            Some(Past {
+                held: held - 1,
+                bytes: cost(e),
+            })
         },
-        Event::Token(_, _) => Past::On(held, cost(e)),
-        Event::Error(_, _, _) => Past::On(held, cost(e)),
-        Event::NoEvent(_, _) => Past::Stuck,
+        Event::Token(..) | Event::Error(..) => Some(Past {
+            held,
+            bytes: cost(e),
+        }),
+        Event::Start(..) | Event::NoEvent(..) => None,
     }
 }
 
-// What event i comes to, with `held` nodes open before it.
-fn pass(words: &[u32], i: usize, held: usize) -> Past
+// What event i comes to, with `held` nodes open before it; none where it is faulty.
+fn pass(words: &[u32], i: usize, held: usize) -> Option<Past>
     requires i_in_bounds { i < length words.now / event_words }
     requires event_words_len_bound { length words.now / event_words ≤ 65536 }
     requires held_le_i { held ≤ i }
@@ -137,69 +139,64 @@ fn pass(words: &[u32], i: usize, held: usize) -> Past
     let a = words[EVENT_WORDS * i];
     let b = words[EVENT_WORDS * i + 1];
     if a < START {
-        return Past::Stuck;
+        return None;
     }
     if a >= ERROR {
         return pass_plain(decode(a, b), held);
     }
     // no distance so far lands in a list, and no other event has such a word
     if b > 65535 {
-        return Past::Stuck;
+        return None;
     }
     let all = traits(a);
-    if (all >> clip(b)) % 2 == 0 {
-        return Past::Stuck;
+    if (all >> b.min(4)) % 2 == 0 {
+        return None;
     }
     if !lands_on(words, i, leads(a, b)) {
-        return Past::Stuck;
+        return None;
     }
     let h = held + all / 32 % 4;
     // 0 at a finish with no node open
     if h == 0 {
-        return Past::Stuck;
+        return None;
     }
-    Past::On(h - 1, all / 128)
+    Some(Past {
+        held: h - 1,
+        bytes: all / 128,
+    })
 }
 
 // The check of a list, and the bytes of its steps: each event's own, since each is asked for once.
-pub fn measure(words: &[u32]) -> Measured
+pub fn measure(words: &[u32]) -> Result<usize, Refusal>
     ensures { Measures words.now result }
 {
     let n = words.len() / EVENT_WORDS;
     if n > MOST_EVENTS {
-        return Measured::Fails(Answer::TooLong);
+        return Err(Refusal::TooLong);
     }
     if words.len() % EVENT_WORDS != 0 {
-        return Measured::Fails(Answer::Faulty(n));
+        return Err(Refusal::Faulty(n));
     }
-    let mut i = 0;
     let mut held = 0;
     let mut bytes = 0;
-    while i < n {
-        match pass(words, i, held) {
-            Past::On(h, asked) => {
-                held = h;
-                bytes += asked;
-            }
-            Past::Stuck => {
-                return Measured::Fails(Answer::Faulty(i));
-            }
-        }
-        i += 1;
+    for i in 0..n {
+        let Some(past) = pass(words, i, held) else {
+            return Err(Refusal::Faulty(i));
+        };
+        held = past.held;
+        bytes += past.bytes;
     }
     if held == 0 {
-        Measured::Passes(bytes)
+        Ok(bytes)
     } else {
-        Measured::Fails(Answer::Faulty(n))
+        Err(Refusal::Faulty(n))
     }
 }
 
 // Whether a list is well formed. It changes nothing.
-pub fn check(words: &[u32]) -> Answer
+pub fn check(words: &[u32]) -> Result<usize, Refusal>
     ensures { numbers result ≡ checked words.now }
 {
-    match measure(words) {
-        Measured::Passes(_) => Answer::Done(words.len() / EVENT_WORDS),
-        Measured::Fails(a) => a,
-    }
+    measure(words)?;
+    Ok(words.len() / EVENT_WORDS)
 }

@@ -1,4 +1,5 @@
 -- src/grammar/expressions/atom.rs handles its markers well: a lemma for each definition. Assumes nothing.
+use Rattle.std.specs.Prelude.{Option, Some, None}
 use mathlib.Core.List.{[], ◌∷◌}
 use mathlib.Core.Bool.{Bool, true, false, not, ◌&&◌, cond}
 use Prim.Native.Nat.{ℕ}
@@ -9,8 +10,6 @@ use Rattle.kinds.specs.Sets.{EXPR-FIRST, CLASSICAL-TYPES, QUBIT-FIRST, LITERAL-F
 use Rattle.kinds.specs.Messages.{UNEXPECTED-STRING-LITERAL, ATOM-EXPR-EXPECTED-EXPRESSION}
 use Rattle.runtime.specs.declared.parser.Completed.{Completed}
 use Rattle.runtime.specs.Acts.{Acts, Acts.done, ◌>>=◌, current, nth, Turn, Turn.more, Turn.last}
-use Rattle.grammar.specs.declared.Got.{Got}
-use Rattle.grammar.specs.declared.Got.TheVariants.{Is, Nothing}
 use Rattle.grammar.specs.declared.Next.{Next}
 use Rattle.grammar.specs.declared.Next.TheVariants.{Semi, Comma, Stop}
 use Rattle.grammar.specs.Grammar.{Counted}
@@ -45,9 +44,9 @@ literal-got =
     (λ first. if first _ _
     (also _ _ (fail-if-at STRING UNEXPECTED-STRING-LITERAL tt) (λ u. opening _ (λ m. also _ _ (run_look 1)
     (λ k. if (eqb k IDENT) _ _
-    (also _ _ timing-tidy (λ u. opening _ (λ m2. also _ _ run-bump-any (λ u. closing-under m LITERAL _ tt (λ c. also _ _ (unasked _ identifier-made) (λ c. then _ _ made_of (answered m2 TIMING-LITERAL tt) (λ cm. ends (Is cm false) gotten)))))))
-    (also _ _ run-bump-any (λ u. then _ _ made_of (answered m LITERAL tt) (λ cm. ends (Is cm false) gotten)))))))
-    (ends Nothing gotten))
+    (also _ _ timing-tidy (λ u. opening _ (λ m2. also _ _ run-bump-any (λ u. closing-under m LITERAL _ tt (λ c. also _ _ (unasked _ identifier-made) (λ c. then _ _ made_of (answered m2 TIMING-LITERAL tt) (λ cm. ends (Some (cm, false)) gotten)))))))
+    (also _ _ run-bump-any (λ u. then _ _ made_of (answered m LITERAL tt) (λ cm. ends (Some (cm, false)) gotten)))))))
+    (ends None gotten))
 
 inv-modifier : Run [] inv_modifier none
 unfolding inv_modifier
@@ -140,12 +139,12 @@ module _ (deeper : Counted) (h : Tidy deeper) where
   unfolding tuple_expr_round
   tuple-round x = also _ _ (run-goes-on R-PAREN) (λ go. if go _ _ (also _ _ (expr-tidy deeper h) by) (ends _ _))
     where
-      by : (g : Got) → Run {A = Turn (Bool × Bool)} [] (elim g [
-        | Nothing ↦ done (last (true, x.1))
-        | Is cm block ↦ (tuple_next x.1 >>= (λ comma. done (more (true, comma))))
+      by : (g : (Option (Completed × Bool))) → Run {A = Turn (Bool × Bool)} [] (elim g [
+        | None ↦ done (last (true, x.1))
+        | Some (cm, block) ↦ (tuple_next x.1 >>= (λ comma. done (more (true, comma))))
       ]) (turns none)
-      by Nothing = ends _ _
-      by (Is cm block) = also _ _ (tuple-next x.1) (λ comma. ends _ _)
+      by None = ends _ _
+      by (Some (cm, block)) = also _ _ (tuple-next x.1) (λ comma. ends _ _)
 
   tuple-expr : Run [] (tuple_expr deeper) made_of
   unfolding tuple_expr
@@ -160,12 +159,12 @@ module _ (deeper : Counted) (h : Tidy deeper) where
       on Comma = ends _ _
       on Stop = ends _ _
 
-      by : (g : Got) → Run {A = Turn (Bool × Bool)} [] (elim g [
-        | Nothing ↦ done (last x)
-        | Is cm block ↦ (array_next x.0 x.1 >>= (λ next. elim next [ Semi ↦ done (more (false, true)) | Comma ↦ done (more (false, x.1)) | Stop ↦ done (last x) ]))
+      by : (g : (Option (Completed × Bool))) → Run {A = Turn (Bool × Bool)} [] (elim g [
+        | None ↦ done (last x)
+        | Some (cm, block) ↦ (array_next x.0 x.1 >>= (λ next. elim next [ Semi ↦ done (more (false, true)) | Comma ↦ done (more (false, x.1)) | Stop ↦ done (last x) ]))
       ]) (turns none)
-      by Nothing = ends _ _
-      by (Is cm block) = also _ _ (array-next x.0 x.1) on
+      by None = ends _ _
+      by (Some (cm, block)) = also _ _ (array-next x.0 x.1) on
 
   array-expr : Run [] (array_expr deeper) made_of
   unfolding array_expr
@@ -200,17 +199,17 @@ module _ (deeper : Counted) (h : Tidy deeper) where
       (if (one_of (INV-KW ∷ POW-KW ∷ CTRL-KW ∷ NEGCTRL-KW ∷ []) k) _ _ (node-got _ modified-gate-call-expr)
       (if (eqb k GPHASE-KW) _ _ (node-got _ gphase-call-expr)
       (if (eqb k IDENT && one_of QUBIT-FIRST la) _ _ (node-got _ gate-call-expr)
-      (if (eqb k IDENT) _ _ (node-got _ identifier-made) (also _ _ (run-err-recover ATOM-EXPR-EXPECTED-EXPRESSION _ tt) (λ u. ends Nothing gotten))))))))))))
+      (if (eqb k IDENT) _ _ (node-got _ identifier-made) (also _ _ (run-err-recover ATOM-EXPR-EXPECTED-EXPRESSION _ tt) (λ u. ends None gotten))))))))))))
 
   pub atom-expr : Run [] (atom_expr deeper) gotten
   unfolding atom_expr
   atom-expr = then _ _ gotten literal-got by
     where
-      by : (g : Got) → Run (gotten g) (elim g [
-        | Is cm block ↦ done (Is cm false)
-        | Nothing ↦ (nth 1 >>= (λ la. current >>= (λ k. cond (one_of CLASSICAL-TYPES k) (cast_expr deeper >>= (λ cm. done (Is cm false))) (current >>= (λ k. atom_of deeper k la)))))
+      by : (g : (Option (Completed × Bool))) → Run (gotten g) (elim g [
+        | Some (cm, block) ↦ done (Some (cm, false))
+        | None ↦ (nth 1 >>= (λ la. current >>= (λ k. cond (one_of CLASSICAL-TYPES k) (cast_expr deeper >>= (λ cm. done (Some (cm, false)))) (current >>= (λ k. atom_of deeper k la)))))
       ]) gotten
-      by (Is cm block) = ends (Is cm false) gotten
-      by Nothing =
+      by (Some (cm, block)) = ends (Some (cm, false)) gotten
+      by None =
           also _ _ (run_look 1) (λ la. also _ _ (run_look 0)
-          (λ k. if (one_of CLASSICAL-TYPES k) _ _ (then _ _ made_of cast-expr (λ cm. ends (Is cm false) gotten)) (also _ _ (run_look 0) (λ k. atom-of k la))))
+          (λ k. if (one_of CLASSICAL-TYPES k) _ _ (then _ _ made_of cast-expr (λ cm. ends (Some (cm, false)) gotten)) (also _ _ (run_look 0) (λ k. atom-of k la))))

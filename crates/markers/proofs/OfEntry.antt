@@ -1,10 +1,10 @@
 -- The counted calls at each depth, and the three entries, handle their markers well. Assumes nothing.
+use Rattle.std.specs.Prelude.{None}
 use mathlib.Core.List.{[]}
 use mathlib.Core.Bool.{false}
 use Prim.Native.Nat.{ℕ, zero, suc}
 use Rattle.kinds.specs.Kinds.{SOURCE-FILE}
 use Rattle.runtime.specs.declared.parser.Stop.TheVariants.{Deep}
-use Rattle.grammar.specs.declared.Mark.TheVariants.{Fresh}
 use Rattle.grammar.specs.Grammar.{Counted}
 use Rattle.operators.specs.Operators.{Table}
 use Rattle.grammar.specs.Entry.{later, counted, deepest, source_file, one_item, one_expression}
@@ -52,4 +52,4 @@ one-item ops = I.item-tidy (counted ops deepest) (tidy ops deepest) false
 
 pub one-expression : (ops : Table) → Run [] (one_expression ops) none
 unfolding one_expression
-one-expression ops = unread _ (unseen _ ((tidy ops deepest).expr-bp Fresh false 1))
+one-expression ops = unread _ (unseen _ ((tidy ops deepest).expr-bp None false 1))

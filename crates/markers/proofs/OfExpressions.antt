@@ -1,4 +1,5 @@
 -- src/grammar/expressions.rs handles its markers well: a lemma for each definition. Assumes nothing.
+use Rattle.std.specs.Prelude.{Option, Some, None, Result, Ok, Err}
 use mathlib.Core.List.{List, [], ◌∷◌, ◌++◌}
 use mathlib.Core.Bool.{Bool, true, false, not, ◌&&◌, cond}
 use Prim.Native.Nat.{ℕ}
@@ -9,12 +10,6 @@ use Rattle.kinds.specs.Sets.{EXPR-FIRST, EXPR-RECOVERY-SET, CLASSICAL-TYPES, TYP
 use Rattle.kinds.specs.Messages.{EXPR-BP-EXPECTED-EXPRESSION, STMT-EXPECTED-EXPRESSION-TYPE-DECLARATION-OR-LET, EXPECTING-FLOAT-IN-COMPLEX-DESIGNATOR, FOUND-DESIGNATOR-IN-HARDWARE-QUBIT-DECLARATION}
 use Rattle.runtime.specs.declared.parser.Completed.{Completed}
 use Rattle.runtime.specs.Acts.{Acts.done, ◌>>=◌, ◌>>◌, abandon, extend_to, repeats, Turn.more, Turn.last}
-use Rattle.grammar.specs.declared.Mark.{Mark}
-use Rattle.grammar.specs.declared.Mark.TheVariants.{Given, Fresh}
-use Rattle.grammar.specs.declared.Offer.{Offer}
-use Rattle.grammar.specs.declared.Offer.TheVariants.{Taken, Back}
-use Rattle.grammar.specs.declared.Got.{Got}
-use Rattle.grammar.specs.declared.Got.TheVariants.{Is, Nothing}
 use Rattle.grammar.specs.Grammar.{Counted}
 use Rattle.operators.specs.Operators.{Guards, Table, arms, first_at, arm_of, current_op}
 use Rattle.grammar.specs.Expressions.{Later, type_name, marker, lacks_expr, assigned, no_assignment, close_op, cast_ahead, stmt_lacks_expr, no_semicolon, stmt_end, literal_designator, array_base, unindexed, args_end, var_name, expr, range_expr, expr_or_range_expr, let_stmt, expr_block_contents_round, expr_block_contents, designator, non_array_type_spec, array_type_spec_round, array_type_spec, type_spec, complex_type_spec, qubit_type_spec, set_expression, index_operator, index_expr, indexed_identifier_round, indexed_identifier, indexed, call_arg_list, call_expr, postfix_expr_round, postfix_expr, lhs, expr_bp_round, expr_bp, no_item, stmt}
@@ -40,10 +35,10 @@ pub type-name : Run [] type_name none
 unfolding type_name
 type-name = also _ _ (run_look 0) (λ k. if (one_of TYPES k) _ _ (also _ _ (run_look 0) (λ k. run-bump k)) (run-error _ 0 tt))
 
-marker-of : (given : Mark) → Run (handed given) (marker given) (λ m. fresh m ∷ [])
+marker-of : (given : Option ℕ) → Run (handed given) (marker given) (λ m. fresh m ∷ [])
 unfolding marker
-marker-of (Given m) = ends m (λ i. fresh i ∷ [])
-marker-of Fresh = run-start []
+marker-of (Some m) = ends m (λ i. fresh i ∷ [])
+marker-of None = run-start []
 
 lacks-expr : Run [] lacks_expr none
 unfolding lacks_expr
@@ -113,7 +108,7 @@ var-name = opening _ (λ m. also _ _ (run_at 0 IDENT) (λ b. also _ _ (if b _ _ 
 
 module _ (deeper : Counted) (h : Tidy deeper) where
   pub expr-got : Run [] (expr deeper) gotten
-  expr-got = h.expr-bp Fresh false 1
+  expr-got = h.expr-bp None false 1
 
   pub expr-tidy : Run [] (expr deeper) none
   expr-tidy = unseen _ expr-got
@@ -210,9 +205,9 @@ module _ (deeper : Counted) (h : Tidy deeper) where
       also _ _ (run-must L-PAREN) (λ u. opening _ (λ m. opening _ (λ m1. also _ _ (run-bump L-PAREN) (λ u. also _ _ (delimited-tidy L-PAREN R-PAREN false COMMA EXPR-FIRST _ tt tt expr-got) (λ u. run-args_end m m1)))))
 
 -- an item that was read took its marker; else it is handed back as it was
-abbrev pub untaken : Offer → Marks
-untaken Taken = []
-untaken (Back m) = fresh m ∷ []
+abbrev pub untaken : Result (Unit {0}) ℕ → Marks
+untaken (Ok x) = []
+untaken (Err m) = fresh m ∷ []
 
 -- what is asked of the files that come after
 pub record Tidies (l : Later) : Type 0 where
@@ -241,19 +236,19 @@ module _ (deeper : Counted) (h : Tidy deeper) (later : Later) (g : Tidies later)
 
   postfix-expr : (cm : Completed) (block calls : Bool) → Run (shut cm.pos ∷ []) (postfix_expr deeper later cm block calls) gotten
   unfolding postfix_expr
-  postfix-expr cm block calls = then _ _ carried (run-repeats _ carried postfix-round (cm, block, calls)) (λ x. ends (Is x.0 x.1) gotten)
+  postfix-expr cm block calls = then _ _ carried (run-repeats _ carried postfix-round (cm, block, calls)) (λ x. ends (Some (x.0, x.1)) gotten)
 
   lhs-got : (prefer : Bool) → Run [] (lhs deeper later prefer) gotten
   unfolding lhs
   lhs-got prefer =
       also _ _ (run_look 0)
       (λ k. if (one_of PREFIX-OPS k) _ _
-      (opening _ (λ m. also _ _ run-bump-any (λ u. also _ _ (unseen _ (h.expr-bp Fresh prefer 255)) (λ x. then _ _ made_of (answered m PREFIX-EXPR tt) (λ cm. ends (Is cm false) gotten)))))
+      (opening _ (λ m. also _ _ run-bump-any (λ u. also _ _ (unseen _ (h.expr-bp None prefer 255)) (λ x. then _ _ made_of (answered m PREFIX-EXPR tt) (λ cm. ends (Some (cm, false)) gotten)))))
       (then _ _ gotten g.atom-expr by))
     where
-      by : (x : Got) → Run (gotten x) (elim x [ Nothing ↦ done Nothing | Is cm block ↦ postfix_expr deeper later cm block (not (prefer && block)) ]) gotten
-      by Nothing = ends Nothing gotten
-      by (Is cm block) = postfix-expr cm block (not (prefer && block))
+      by : (x : (Option (Completed × Bool))) → Run (gotten x) (elim x [ None ↦ done None | Some (cm, block) ↦ postfix_expr deeper later cm block (not (prefer && block)) ]) gotten
+      by None = ends None gotten
+      by (Some (cm, block)) = postfix-expr cm block (not (prefer && block))
 
   module _ (ops : Table) where
     bp-round : (prefer : Bool) (bp : ℕ) (cm : Completed) → Run (made_of cm) (expr_bp_round deeper later ops prefer bp cm) (turns made_of)
@@ -261,24 +256,24 @@ module _ (deeper : Counted) (h : Tidy deeper) (later : Later) (g : Tidies later)
     bp-round prefer bp cm =
         also _ _ (current-op ops)
         (λ o. if (ltb o.power bp) _ _ (ends (last cm) (turns made_of))
-        (then _ _ _ (run-precede cm []) (λ m. also _ _ (run-bump o.kind) (λ u. also _ _ (unseen _ (h.expr-bp Fresh false o.next)) (λ x. then _ _ made_of (close-op prefer cm.kind o.kind m) (λ cm. ends (more cm) (turns made_of)))))))
+        (then _ _ _ (run-precede cm []) (λ m. also _ _ (run-bump o.kind) (λ u. also _ _ (unseen _ (h.expr-bp None false o.next)) (λ x. then _ _ made_of (close-op prefer cm.kind o.kind m) (λ cm. ends (more cm) (turns made_of)))))))
 
-    pub expr-bp : (given : Mark) (prefer : Bool) (bp : ℕ) → Run (handed given) (expr_bp deeper later ops given prefer bp) gotten
+    pub expr-bp : (given : Option ℕ) (prefer : Bool) (bp : ℕ) → Run (handed given) (expr_bp deeper later ops given prefer bp) gotten
     unfolding expr_bp
     expr-bp given prefer bp =
         then _ _ (λ m. fresh m ∷ []) (marker-of given)
         (λ m. also _ _ lacks-expr
-        (λ lacks. if lacks _ _ (also _ _ (run-err-recover EXPR-BP-EXPECTED-EXPRESSION EXPR-RECOVERY-SET tt) (λ u. dropping m _ (ends Nothing gotten)))
+        (λ lacks. if lacks _ _ (also _ _ (run-err-recover EXPR-BP-EXPECTED-EXPRESSION EXPR-RECOVERY-SET tt) (λ u. dropping m _ (ends None gotten)))
         (from _ _ gotten (lhs-got prefer) (by m))))
       where
-        by : (m : ℕ) (x : Got) → Run (gotten x ++ fresh m ∷ []) (elim x [
-          | Nothing ↦ (abandon m >> done Nothing)
-          | Is cm block ↦ (extend_to cm m >>= (λ cm. cond (prefer && block) (done (Is cm true)) (repeats (expr_bp_round deeper later ops prefer bp) cm >>= (λ cm. done (Is cm false)))))
+        by : (m : ℕ) (x : (Option (Completed × Bool))) → Run (gotten x ++ fresh m ∷ []) (elim x [
+          | None ↦ (abandon m >> done None)
+          | Some (cm, block) ↦ (extend_to cm m >>= (λ cm. cond (prefer && block) (done (Some (cm, true))) (repeats (expr_bp_round deeper later ops prefer bp) cm >>= (λ cm. done (Some (cm, false))))))
         ]) gotten
-        by m Nothing = dropping m _ (ends Nothing gotten)
-        by m (Is cm block) =
+        by m None = dropping m _ (ends None gotten)
+        by m (Some (cm, block)) =
             then _ _ (λ a. shut a.pos ∷ []) (run-extend cm m [])
-            (λ cm. if (prefer && block) _ _ (ends (Is cm true) gotten) (then _ _ made_of (run-repeats _ made_of (bp-round prefer bp) cm) (λ cm. ends (Is cm false) gotten)))
+            (λ cm. if (prefer && block) _ _ (ends (Some (cm, true)) gotten) (then _ _ made_of (run-repeats _ made_of (bp-round prefer bp) cm) (λ cm. ends (Some (cm, false)) gotten)))
 
   no-item : (m : ℕ) → Run (fresh m ∷ []) (no_item deeper later m) none
   unfolding no_item
@@ -289,11 +284,11 @@ module _ (deeper : Counted) (h : Tidy deeper) (later : Later) (g : Tidies later)
       (λ b. if b _ _ (also _ _ run-bump-any (λ u. closed m ANNOTATION-STATEMENT tt))
       (also _ _ stmt-lacks-expr
       (λ lacks. if lacks _ _ (also _ _ (run-err-recover STMT-EXPECTED-EXPRESSION-TYPE-DECLARATION-OR-LET _ tt) (λ u. dropped m))
-      (then _ _ gotten (h.expr-bp (Given m) true 1) by))))))
+      (then _ _ gotten (h.expr-bp (Some m) true 1) by))))))
     where
-      by : (x : Got) → Run {A = Unit {0}} (gotten x) (elim x [ Nothing ↦ done tt | Is cm block ↦ stmt_end cm block ]) none
-      by Nothing = ends tt none
-      by (Is cm block) = stmt-end cm block
+      by : (x : (Option (Completed × Bool))) → Run {A = Unit {0}} (gotten x) (elim x [ None ↦ done tt | Some (cm, block) ↦ stmt_end cm block ]) none
+      by None = ends tt none
+      by (Some (cm, block)) = stmt-end cm block
 
   pub stmt-tidy : Run [] (stmt deeper later) none
   unfolding stmt
@@ -304,6 +299,6 @@ module _ (deeper : Counted) (h : Tidy deeper) (later : Later) (g : Tidies later)
       (λ b. if b _ _ (opening _ (λ m. let-stmt deeper h m))
       (opening _ (λ m. then _ _ untaken (g.opt-item m) offered)))))
     where
-      offered : (x : Offer) → Run {A = Unit {0}} (untaken x) (elim x [ Taken ↦ done tt | Back m ↦ no_item deeper later m ]) none
-      offered Taken = ends tt none
-      offered (Back m) = no-item m
+      offered : (x : (Result (Unit {0}) ℕ)) → Run {A = Unit {0}} (untaken x) (elim x [ Ok x ↦ done tt | Err m ↦ no_item deeper later m ]) none
+      offered (Ok x) = ends tt none
+      offered (Err m) = no-item m

@@ -1,4 +1,6 @@
 -- src/grammar.rs handles its markers well: a lemma for each definition. Assumes nothing.
+use Rattle.runtime.specs.declared.parser.Completed.{Completed}
+use Rattle.std.specs.Prelude.{Option}
 use mathlib.Core.List.{List, []}
 use mathlib.Core.Bool.{Bool, true, false, not}
 use Prim.Native.Nat.{ℕ}
@@ -8,7 +10,6 @@ use Rattle.kinds.specs.Membership.{one_of}
 use Rattle.kinds.specs.Sets.{SCALAR-TYPES, TYPES}
 use Rattle.kinds.specs.Messages.{EXPECTED-A-NAME}
 use Rattle.runtime.specs.Acts.{Acts}
-use Rattle.grammar.specs.declared.Got.{Got}
 use Rattle.grammar.specs.Grammar.{Counted, fail_if_at, fail_unless_at, name_r, separator, is_some, delimited_round, delimited, scalar_return, opt_ret_type}
 use Rattle.markers.proofs.Safe.{small}
 use Rattle.markers.proofs.Calculus.{Run, none, also, ends, if, run_look, run_at, run-at-ts, run-bump, run-expect, run-error, run-expected, run-goes-on, run-repeats, run-err-recover, message, opening, closed, dropped, unread, perhaps}
@@ -37,7 +38,7 @@ sep delim first t =
     (λ b. if b _ _ (also _ _ (run-bump delim) (λ u. ends true none))
     (also _ _ (run-at-ts first) (λ b. if b _ _ (also _ _ (run-expected delim t) (λ u. ends true none)) (ends false none))))
 
-pub delimited-tidy : (bra ket : ℕ) (consume : Bool) (delim : ℕ) (first : List ℕ) (parser : Acts Got) → T (small ket) → T (small delim) → Run [] parser gotten → Run [] (delimited bra ket consume delim first parser) none
+pub delimited-tidy : (bra ket : ℕ) (consume : Bool) (delim : ℕ) (first : List ℕ) (parser : Acts (Option (Completed × Bool))) → T (small ket) → T (small delim) → Run [] parser gotten → Run [] (delimited bra ket consume delim first parser) none
 unfolding delimited delimited_round
 delimited-tidy bra ket consume delim first parser k t h =
     also _ _ (perhaps consume _ (run-bump bra))

@@ -1,4 +1,5 @@
 -- src/grammar/items.rs handles its markers well: a lemma for each definition. Assumes nothing.
+use Rattle.std.specs.Prelude.{Result, Ok, Err}
 use mathlib.Core.List.{List, [], ◌∷◌}
 use mathlib.Core.Bool.{Bool, not, ◌&&◌}
 use Prim.Native.Nat.{ℕ}
@@ -8,8 +9,6 @@ use Rattle.kinds.specs.Kinds.{EOF, SEMICOLON, EQ, L-PAREN, R-PAREN, L-BRACK, L-C
 use Rattle.kinds.specs.Sets.{ITEM-RECOVERY-SET, CLASSICAL-TYPES, QUBIT-FIRST}
 use Rattle.kinds.specs.Messages.{EXPECTED-A-PATH-TO-A-FILE, EXPECTING-CASE-KEYWORD, EXPECTED-STATEMENT-FOUND-SEMICOLON}
 use Rattle.runtime.specs.Acts.{Acts}
-use Rattle.grammar.specs.declared.Offer.{Offer}
-use Rattle.grammar.specs.declared.Offer.TheVariants.{Taken, Back}
 use Rattle.grammar.specs.Grammar.{Counted}
 use Rattle.grammar.specs.Items.{break, continue, end, filepath_r, defcalgrammar, include, skip_to_semicolon, version, version_string, io_type, qubit_end, declares, switch_case_stmt_round, switch_case_stmt, if_stmt, while_stmt, for_rest, for_stmt, qubit_declaration_stmt, reset_stmt, gate_definition, signature, defcal, classical_declaration_stmt, io_declaration_stmt, def_stmt, cal, barrier, delay_stmt, alias_stmt, statements, beginning, opt_item, unmatched, after_item, item, source_file_contents_round, source_file_contents}
 use Rattle.markers.proofs.Marks.{Marker.fresh}
@@ -76,8 +75,8 @@ Each m (r ∷ rs) = Run (fresh m ∷ []) r.1 none × Each m rs
 
 module _ (deeper : Counted) (h : Tidy deeper) where
   beginning-ends : (m : ℕ) (rs : List (ℕ × Acts (Unit {0}))) (k : ℕ) → Each m rs → Run (fresh m ∷ []) (beginning deeper m rs k) untaken
-  beginning-ends m [] k e = ends (Back m) untaken
-  beginning-ends m (r ∷ rs) k e = if (eqb k r.0) _ _ (then _ _ none e.0 (λ u. ends Taken untaken)) (beginning-ends m rs k e.1)
+  beginning-ends m [] k e = ends (Err m) untaken
+  beginning-ends m (r ∷ rs) k e = if (eqb k r.0) _ _ (then _ _ none e.0 (λ u. ends (Ok tt) untaken)) (beginning-ends m rs k e.1)
 
   switch-case-stmt : (m : ℕ) → Run (fresh m ∷ []) (switch_case_stmt deeper m) none
   unfolding switch_case_stmt switch_case_stmt_round
@@ -177,7 +176,7 @@ module _ (deeper : Counted) (h : Tidy deeper) where
   unfolding opt_item
   opt-item m =
       also _ _ (run_look 1) (λ la. also _ _ (run_look 0)
-      (λ k. if (declares k la) _ _ (then _ _ none (classical-declaration-stmt m) (λ u. ends Taken untaken)) (also _ _ (run_look 0) (λ k. beginning-ends m (statements deeper m) k (each-statement m)))))
+      (λ k. if (declares k la) _ _ (then _ _ none (classical-declaration-stmt m) (λ u. ends (Ok tt) untaken)) (also _ _ (run_look 0) (λ k. beginning-ends m (statements deeper m) k (each-statement m)))))
 
   unmatched-tidy : (stop : Bool) (m : ℕ) → Run (fresh m ∷ []) (unmatched deeper stop m) none
   unfolding unmatched
@@ -190,9 +189,9 @@ module _ (deeper : Counted) (h : Tidy deeper) where
   unfolding item
   item-tidy stop = opening _ (λ m. then _ _ untaken (opt-item m) offered)
     where
-      offered : (x : Offer) → Run {A = Unit {0}} (untaken x) (elim x [ Taken ↦ after_item | Back m ↦ unmatched deeper stop m ]) none
-      offered Taken = after-item
-      offered (Back m) = unmatched-tidy stop m
+      offered : (x : (Result (Unit {0}) ℕ)) → Run {A = Unit {0}} (untaken x) (elim x [ Ok x ↦ after_item | Err m ↦ unmatched deeper stop m ]) none
+      offered (Ok x) = after-item
+      offered (Err m) = unmatched-tidy stop m
 
   pub source-file-contents : (stop : Bool) → Run [] (source_file_contents deeper stop) none
   unfolding source_file_contents source_file_contents_round

@@ -19,7 +19,7 @@ use Rattle.laws.proofs.Tests.{by-test}
 use Rattle.kinds.proofs.Laws.{both-parts}
 use Rattle.input.specs.declared.Parts.{Parts}
 use Rattle.input.specs.declared.Parts.TheVariants.{One}
-use Rattle.runtime.specs.declared.parser.Parser.{Parser}
+use Rattle.runtime.specs.State.{Parser}
 use Rattle.input.specs.Input.{Env, seen}
 use Rattle.input.specs.Glue.{glued_kinds, parts_in, parts_of, raw_count, stands_at}
 use Rattle.runtime.specs.State.{St, live, looked, halted, stop_number, numbers, added, rewritten, refuse, popped, event_at, push_event, enough, consume, do_bump, named, linked, dropped, most_looks, counted, refusal, consumed, Fit, gap}

@@ -2,11 +2,11 @@
 #![tactic(auto)]
 
 ghost use Rattle.std.specs.Prelude.{◌≡◌, [], ◌∷◌};
-ghost use Rattle.input.specs.Input.{env};
-ghost use Rattle.runtime.specs.State.{Fit};
+ghost use Rattle.input.specs.Lent.{tokens};
 ghost use Rattle.runtime.specs.Acts.{Peeks};
 ghost use Rattle.operators.specs.Operators as acts;
 
+use input::Input;
 use kinds::syntax_kind_enum as k;
 use runtime::parser::Parser;
 
@@ -16,13 +16,6 @@ pub struct Op {
     pub power: u8,
     pub kind: u16,
     pub next: u8,
-}
-
-// The state and an operator.
-#[derive(Clone, Copy)]
-pub struct OpAt {
-    pub p: Parser,
-    pub op: Op,
 }
 
 // The powers of mode 0, a byte for each kind, eight to a word: twice the power, and one more where the operator is right.
@@ -47,72 +40,37 @@ const SPECIFICATION_ORDER: [u64; 7] = [
     0x0003031c1c060803,
 ];
 
-fn first_of_one(kinds: &[u16], joints: &[u64], p: Parser, a: u16, plain: u16) -> u16
-    requires { Fit p }
-    ensures { Peeks (env kinds.now joints.now) (acts.first_at (a ∷ []) plain) p result p }
+// The first of some kinds that stands here, and else another.
+fn first_of(input: &Input, p: Parser, kinds: &[u16], plain: u16) -> u16
+    ensures { Peeks (tokens input.now) (acts.first_at kinds.now plain) p result p }
 {
-    if p.at(kinds, joints, a) {
-        return a;
-    }
-    plain
-}
-
-fn first_of_two(kinds: &[u16], joints: &[u64], p: Parser, a: u16, b: u16, plain: u16) -> u16
-    requires { Fit p }
-    ensures { Peeks (env kinds.now joints.now) (acts.first_at (a ∷ b ∷ []) plain) p result p }
-{
-    if p.at(kinds, joints, a) {
-        return a;
-    }
-    if p.at(kinds, joints, b) {
-        return b;
-    }
-    plain
-}
-
-fn first_of_three(
-    kinds: &[u16],
-    joints: &[u64],
-    p: Parser,
-    a: u16,
-    b: u16,
-    c: u16,
-    plain: u16,
-) -> u16
-    requires { Fit p }
-    ensures { Peeks (env kinds.now joints.now) (acts.first_at (a ∷ b ∷ c ∷ []) plain) p result p }
-{
-    if p.at(kinds, joints, a) {
-        return a;
-    }
-    if p.at(kinds, joints, b) {
-        return b;
-    }
-    if p.at(kinds, joints, c) {
-        return c;
+    for kind in kinds {
+        if p.at(input, *kind) {
+            return *kind;
+        }
     }
     plain
 }
 
 // The operator that stands here, where the token is of a kind; DOT3 for none.
-fn operator_at(kinds: &[u16], joints: &[u64], p: Parser, kind: u16) -> u16
-    requires { Fit p }
-    ensures { Peeks (env kinds.now joints.now) (acts.arm_of acts.arms kind) p result p }
+// Stays (promise): the definition has the crate's own answer for none, a power of 0 and DOT3.
+fn operator_at(input: &Input, p: Parser, kind: u16) -> u16
+    ensures { Peeks (tokens input.now) (acts.arm_of acts.arms kind) p result p }
 {
     match kind {
-        k::PIPE => first_of_two(kinds, joints, p, k::PIPE2, k::PIPEEQ, k::PIPE),
-        k::R_ANGLE => first_of_three(kinds, joints, p, k::SHREQ, k::SHR, k::GTEQ, k::R_ANGLE),
-        k::EQ => first_of_two(kinds, joints, p, k::FAT_ARROW, k::EQ2, k::EQ),
-        k::L_ANGLE => first_of_three(kinds, joints, p, k::LTEQ, k::SHLEQ, k::SHL, k::L_ANGLE),
-        k::PLUS => first_of_two(kinds, joints, p, k::PLUSEQ, k::DOUBLE_PLUS, k::PLUS),
-        k::CARET => first_of_one(kinds, joints, p, k::CARETEQ, k::CARET),
-        k::PERCENT => first_of_one(kinds, joints, p, k::PERCENTEQ, k::PERCENT),
-        k::AMP => first_of_two(kinds, joints, p, k::AMPEQ, k::AMP2, k::AMP),
-        k::SLASH => first_of_one(kinds, joints, p, k::SLASHEQ, k::SLASH),
-        k::STAR => first_of_one(kinds, joints, p, k::STAREQ, k::STAR),
-        k::DOT => first_of_two(kinds, joints, p, k::DOT2EQ, k::DOT2, k::DOT3),
-        k::BANG => first_of_one(kinds, joints, p, k::NEQ, k::DOT3),
-        k::MINUS => first_of_one(kinds, joints, p, k::MINUSEQ, k::MINUS),
+        k::PIPE => first_of(input, p, &[k::PIPE2, k::PIPEEQ], k::PIPE),
+        k::R_ANGLE => first_of(input, p, &[k::SHREQ, k::SHR, k::GTEQ], k::R_ANGLE),
+        k::EQ => first_of(input, p, &[k::FAT_ARROW, k::EQ2], k::EQ),
+        k::L_ANGLE => first_of(input, p, &[k::LTEQ, k::SHLEQ, k::SHL], k::L_ANGLE),
+        k::PLUS => first_of(input, p, &[k::PLUSEQ, k::DOUBLE_PLUS], k::PLUS),
+        k::CARET => first_of(input, p, &[k::CARETEQ], k::CARET),
+        k::PERCENT => first_of(input, p, &[k::PERCENTEQ], k::PERCENT),
+        k::AMP => first_of(input, p, &[k::AMPEQ, k::AMP2], k::AMP),
+        k::SLASH => first_of(input, p, &[k::SLASHEQ], k::SLASH),
+        k::STAR => first_of(input, p, &[k::STAREQ], k::STAR),
+        k::DOT => first_of(input, p, &[k::DOT2EQ, k::DOT2], k::DOT3),
+        k::BANG => first_of(input, p, &[k::NEQ], k::DOT3),
+        k::MINUS => first_of(input, p, &[k::MINUSEQ], k::MINUS),
         _ => k::DOT3,
     }
 }
@@ -133,18 +91,16 @@ fn power_of(mode: u8, kind: u16) -> u64
 }
 
 // What stands here under the table of a mode: one lookup.
-pub fn current_op(kinds: &[u16], joints: &[u64], p: Parser, mode: u8) -> OpAt
-    requires { Fit p }
-    ensures { Peeks (env kinds.now joints.now) (acts.current_op (acts.table_of mode)) p result.op result.p }
+pub fn current_op(input: &Input, p: Parser, mode: u8) -> (Parser, Op)
+    ensures { Peeks (tokens input.now) (acts.current_op (acts.table_of mode)) p result.1 result.0 }
 {
-    let l = p.current(kinds, joints);
-    let p1 = l.p;
-    let kind = operator_at(kinds, joints, p1, l.kind);
+    let (p, here) = p.current(input);
+    let kind = operator_at(input, p, here);
     let byte = power_of(mode, kind);
     let op = Op {
         power: (byte / 2) as u8,
         kind,
         next: (byte / 2 + 1 - byte % 2) as u8,
     };
-    OpAt { p: p1, op }
+    (p, op)
 }

@@ -4,12 +4,16 @@ use Prim.Native.Nat.{ℕ, zero, suc, ◌≤◌, ◌<◌}
 use mathlib.Core.Path.{◌≡◌, refl, sym, ap, ◌∙◌}
 use mathlib.Core.List.{List, []}
 use lib.ListN.{length, set}
+use Rattle.std.specs.Prelude.{Err}
 use borrow.Author.Tests.{eq-eqb, ne_eqb, lt-ltb, le-ltb}
 use Rattle.lists.specs.Answer.{Numbers}
 use Rattle.events.specs.Resolve.{Outcome, ends}
-use Rattle.parse.specs.declared.Answer.{Answer}
+use Rattle.parse.specs.Parse.{Answer}
 use Rattle.parse.specs.Parse as P
-use Rattle.lex.specs.declared.Answer as L
+use Rattle.lex.specs.declared.Refusal.{Refusal}
+use Rattle.lex.specs.declared.Refusal.TheVariants.{TooLong, NoRoom}
+use Rattle.lex.specs.Answer.{numbers}
+use Rattle.lex.specs.Answer as L
 use Rattle.lex.specs.Lexing.{lent, lexing}
 use Rattle.lex.specs.Lexing as X
 use Rattle.oq3.specs.Calls.{Call, returns, with_room, three, told_parse, entered, parses, LexCall, lex_returns, two, told_lex, lexes}
@@ -62,6 +66,12 @@ module _ (text kinds joints tokens room : List ℕ) where
   pub lex-told : (a : L.Answer) (ks js ts : List ℕ) → 2 ≤ length room → lexing (lent text kinds joints tokens) ≡ X.ends a ks js ts → lexes text kinds joints tokens room ≡ lex_returns a.code ks js ts (two a room)
   unfolding lexes
   lex-told a ks js ts h e = rw (le-ltb (length room) 2 h) (ap (told_lex room) e)
+
+  -- a refusal has no kinds
+  pub lex-refused : (r : Refusal) (n p : ℕ) (ks js ts : List ℕ) → 2 ≤ length room → lexing (lent text kinds joints tokens) ≡ X.ends (numbers (Err r)) ks js ts → n ≡ (numbers (Err r)).code → p ≡ (numbers (Err r)).place
+      → lexes text kinds joints tokens room ≡ lex_returns n ks js ts (set (set room 0 p) 1 0)
+  lex-refused TooLong n p ks js ts h e f g = rw (f, g) (lex-told (numbers (Err TooLong)) ks js ts h e)
+  lex-refused (NoRoom m) n p ks js ts h e f g = rw (f, g) (lex-told (numbers (Err (NoRoom m))) ks js ts h e)
 
 pub lex-call-unique : (c : LexCall) (m n : ℕ) (ks₁ ks₂ js₁ js₂ ts₁ ts₂ room₁ room₂ : List ℕ) → c ≡ lex_returns m ks₁ js₁ ts₁ room₁ → c ≡ lex_returns n ks₂ js₂ ts₂ room₂
     → (m ≡ n) × (ks₁ ≡ ks₂) × (js₁ ≡ js₂) × (ts₁ ≡ ts₂) × (room₁ ≡ room₂)

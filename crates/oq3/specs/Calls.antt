@@ -2,10 +2,10 @@
 use Rattle.std.specs.Prelude.{ℕ, zero, suc, cond, List, [], eqb, ltb, length, set}
 use Rattle.lists.specs.Check.{checked}
 use Rattle.events.specs.Resolve.{Outcome, ends, panics, resolved}
-use Rattle.parse.specs.declared.Answer.{Answer}
+use Rattle.parse.specs.Parse.{Answer}
 use Rattle.parse.specs.declared.Entry.TheVariants.{SourceFile, Item, Expression}
 use Rattle.parse.specs.Parse as P
-use Rattle.lex.specs.declared.Answer as L
+use Rattle.lex.specs.Answer as L
 use Rattle.lex.specs.Lexing.{lent, lexing}
 use Rattle.lex.specs.Lexing as X
 

@@ -1,23 +1,41 @@
 // The public calls: `oq3_c` exports them for C and Rust. A call returns the number of docs/RULES.md and writes its
 // place to the first word of a lent answer room, a parse its events and lookups to the next two, a lexing its kinds to the second. Where that
 // room is too short it returns 100, and reads and writes nothing.
+// Stays (C interface): numbers for entries, modes and refusals, slices one by one, and words of a lent room for what is answered.
 #![tactic(auto)]
 
-ghost use Rattle.std.specs.Prelude.{◌≡◌, [], ◌≤◌, length};
+ghost use Rattle.std.specs.Prelude.{◌≡◌, [], ◌≤◌, length, set};
+ghost use Rattle.parse.specs.Answer.{numbers};
 ghost use Rattle.parse.specs.Parse.{lent, parsed};
 ghost use Rattle.oq3.specs.Calls.{checks, resolves, returns, three, told_parse, parses, lex_returns, lexes};
 
-use parse::{Answer, Entry};
+use parse::{Entry, Parsed, Refusal};
 
-// Writes the place, the events and the lookups of an answer, and hands its number back.
-fn tell(answer: &mut [u64], a: Answer) -> u32
+// Writes a place, and how many events and lookups.
+fn put_three(answer: &mut [u64], place: u32, events: u32, lookups: u32)
     requires { 3 ≤ length answer.old }
-    ensures { (result ≡ a.code) × (answer.new ≡ three a answer.old) }
+    ensures { answer.new ≡ set (set (set answer.old 0 place) 1 events) 2 lookups }
 {
-    answer[0] = a.place as u64;
-    answer[1] = a.events as u64;
-    answer[2] = a.lookups as u64;
-    a.code
+    answer[0] = place as u64;
+    answer[1] = events as u64;
+    answer[2] = lookups as u64;
+}
+
+// Writes the place, the events and the lookups of what a parse says, and hands its number back.
+fn tell(answer: &mut [u64], said: Result<Parsed, Refusal>) -> u32
+    requires { 3 ≤ length answer.old }
+    ensures { (result ≡ (numbers said).code) × (answer.new ≡ three (numbers said) answer.old) }
+{
+    match said {
+        Ok(p) => {
+            put_three(answer, p.tokens, p.events, p.lookups);
+            0
+        }
+        Err(refusal) => {
+            put_three(answer, refusal.place(), 0, 0);
+            refusal.code()
+        }
+    }
 }
 
 // A parse from an entry, told.
@@ -32,8 +50,8 @@ fn parse_from(
     requires { 3 ≤ length answer.old }
     ensures { told_parse answer.old (parsed (lent entry mode kinds.now joints.now room.old)) ≡ returns result room.new [] answer.new }
 {
-    let a = parse::parse(entry, mode, kinds, joints, room);
-    tell(answer, a)
+    let said = parse::parse(entry, mode, kinds, joints, room);
+    tell(answer, said)
 }
 
 // Entry 0 is the source file, 1 an item, 2 an expression. Another one returns 101, with 0 for each word of the answer, before any test
@@ -51,22 +69,15 @@ pub fn oq3_parse(
     if answer.len() < 3 {
         return 100;
     }
-    if entry == 0 {
-        return parse_from(Entry::SourceFile, mode, kinds, joints, room, answer);
+    match entry {
+        0 => parse_from(Entry::SourceFile, mode, kinds, joints, room, answer),
+        1 => parse_from(Entry::Item, mode, kinds, joints, room, answer),
+        2 => parse_from(Entry::Expression, mode, kinds, joints, room, answer),
+        _ => {
+            put_three(answer, 0, 0, 0);
+            101
+        }
     }
-    if entry == 1 {
-        return parse_from(Entry::Item, mode, kinds, joints, room, answer);
-    }
-    if entry == 2 {
-        return parse_from(Entry::Expression, mode, kinds, joints, room, answer);
-    }
-    let a = Answer {
-        code: 101,
-        place: 0,
-        events: 0,
-        lookups: 0,
-    };
-    tell(answer, a)
 }
 
 pub fn oq3_check(words: &[u32], answer: &mut [u64]) -> u32
@@ -76,8 +87,8 @@ pub fn oq3_check(words: &[u32], answer: &mut [u64]) -> u32
         return 100;
     }
     let a = lists::check(words);
-    answer[0] = a.place() as u64;
-    a.code()
+    answer[0] = lists::place(a) as u64;
+    lists::code(a)
 }
 
 pub fn oq3_resolve(words: &mut [u32], steps: &mut [u8], answer: &mut [u64]) -> u32
@@ -87,8 +98,8 @@ pub fn oq3_resolve(words: &mut [u32], steps: &mut [u8], answer: &mut [u64]) -> u
         return 100;
     }
     let a = events::resolve(words, steps);
-    answer[0] = a.place() as u64;
-    a.code()
+    answer[0] = lists::place(a) as u64;
+    lists::code(a)
 }
 
 pub fn oq3_lex(
@@ -103,8 +114,16 @@ pub fn oq3_lex(
     if answer.len() < 2 {
         return 100;
     }
-    let a = lex::lex(text, kinds, joints, tokens);
-    answer[0] = a.place as u64;
-    answer[1] = a.kinds as u64;
-    a.code
+    match lex::lex(text, kinds, joints, tokens) {
+        Ok(l) => {
+            answer[0] = l.tokens as u64;
+            answer[1] = l.kinds as u64;
+            0
+        }
+        Err(r) => {
+            answer[0] = r.place() as u64;
+            answer[1] = 0;
+            r.code()
+        }
+    }
 }

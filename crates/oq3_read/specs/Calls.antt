@@ -1,9 +1,8 @@
 -- What an exported call of the reader returns and leaves, from what the call behind it says.
-use Rattle.std.specs.Prelude.{ℕ, cond, List, [], ◌∷◌, ◌++◌, ltb, length, drop}
+use Rattle.std.specs.Prelude.{ℕ, cond, List, [], ◌∷◌, ◌++◌, ltb, length, drop, Some, None, Ok, Err}
 use Rattle.records.specs.declared.Step.{Step}
 use Rattle.records.specs.declared.Step.TheVariants.{Enter, Leave, Token, Error, Expected}
-use Rattle.stepfile.specs.declared.Found.{Found}
-use Rattle.stepfile.specs.declared.Found.TheVariants.{Sound, End, Cut, Unsound}
+use Rattle.stepfile.specs.Front.{Found}
 use Rattle.stepfile.specs.Front.{front, taken}
 use Rattle.stepfile.specs.Answer.{number_of}
 use Rattle.stepfile.specs.File.{file_read}
@@ -33,10 +32,9 @@ fields_of (Error c x) = 4 ∷ c ∷ x ∷ 0 ∷ []
 fields_of (Expected k f) = 5 ∷ 1 ∷ k ∷ f ∷ []
 
 abbrev pub fields : Found → List ℕ
-fields (Sound s) = fields_of s
-fields End = 0 ∷ 0 ∷ 0 ∷ 0 ∷ []
-fields Cut = 0 ∷ 0 ∷ 0 ∷ 0 ∷ []
-fields Unsound = 0 ∷ 0 ∷ 0 ∷ 0 ∷ []
+fields (Ok (Some s)) = fields_of s
+fields (Ok None) = 0 ∷ 0 ∷ 0 ∷ 0 ∷ []
+fields (Err f) = 0 ∷ 0 ∷ 0 ∷ 0 ∷ []
 
 -- One step: where the rest begins, and the fields. The last word is for records with more numbers: there are none.
 abbrev pub six : Found → List ℕ

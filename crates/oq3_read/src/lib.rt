@@ -6,85 +6,48 @@ ghost use Rattle.std.specs.Prelude.{◌≡◌, [], ◌∷◌, ◌++◌, ◌≤�
 ghost use Rattle.oq3_read.specs.Calls.{returns, reads_file, fields_of, fields, reads_step};
 
 use records::Step;
-use stepfile::Found;
+use stepfile::Fault;
 
-// The record kind of what stands at the front of a file, and its payload's numbers; 0 for what is not there.
-#[derive(Clone, Copy)]
-struct Fields {
-    kind: u64,
-    first: u64,
-    second: u64,
-    third: u64,
-}
-
-fn of_step(s: Step) -> Fields
-    ensures { result.kind ∷ (result.first ∷ (result.second ∷ (result.third ∷ []))) ≡ fields_of s }
+// The record kind of a step, and its payload's numbers; 0 for those that it lacks.
+fn of_step(s: Step) -> [u64; 4]
+    ensures { result ≡ fields_of s }
 {
     match s {
-        Step::Enter(kind) => Fields {
-            kind: 1,
-            first: kind as u64,
-            second: 0,
-            third: 0,
-        },
-        Step::Leave => Fields {
-            kind: 2,
-            first: 0,
-            second: 0,
-            third: 0,
-        },
-        Step::Token(kind, count) => Fields {
-            kind: 3,
-            first: kind as u64,
-            second: count as u64,
-            third: 0,
-        },
-        Step::Error(code, argument) => Fields {
-            kind: 4,
-            first: code as u64,
-            second: argument as u64,
-            third: 0,
-        },
-        Step::Expected(kind, found) => Fields {
-            kind: 5,
-            first: 1,
-            second: kind as u64,
-            third: found as u64,
-        },
+        Step::Enter(kind) => [1, u64::from(kind), 0, 0],
+        Step::Leave => [2, 0, 0, 0],
+        Step::Token(kind, count) => [3, u64::from(kind), u64::from(count), 0],
+        Step::Error(code, argument) => [4, u64::from(code), u64::from(argument), 0],
+        Step::Expected(kind, found) => [5, 1, u64::from(kind), u64::from(found)],
     }
 }
 
-fn of_front(f: Found) -> Fields
-    ensures { result.kind ∷ (result.first ∷ (result.second ∷ (result.third ∷ []))) ≡ fields f }
+// The same of what stands at the front of a file: without a step all are 0.
+fn of_front(f: Result<Option<Step>, Fault>) -> [u64; 4]
+    ensures { result ≡ fields f }
 {
-    let none = Fields {
-        kind: 0,
-        first: 0,
-        second: 0,
-        third: 0,
-    };
     match f {
-        Found::Sound(s) => of_step(s),
-        Found::End => none,
-        Found::Cut => none,
-        Found::Unsound => none,
+        Ok(Some(s)) => of_step(s),
+        Ok(None) | Err(_) => [0; 4],
     }
 }
 
 // Writes where the rest begins, the record kind and the numbers.
-fn tell(answer: &mut [u64], rest: usize, r: Fields)
+fn tell(answer: &mut [u64], rest: usize, fields: [u64; 4])
     requires { 6 ≤ length answer.old }
-    ensures { answer.new ≡ (rest ∷ (r.kind ∷ (r.first ∷ (r.second ∷ (r.third ∷ (0 ∷ [])))))) ++ drop 6 answer.old }
+    ensures { answer.new ≡ (rest ∷ (fields ++ (0 ∷ []))) ++ drop 6 answer.old }
 {
+    let [kind, first, second, third] = fields;
+    // Stays (speed): word by word, since one copy of an array of six takes 27 instructions more.
     answer[0] = rest as u64;
-    answer[1] = r.kind;
-    answer[2] = r.first;
-    answer[3] = r.second;
-    answer[4] = r.third;
+    answer[1] = kind;
+    answer[2] = first;
+    answer[3] = second;
+    answer[4] = third;
     answer[5] = 0;
 }
 
 // One step: where the rest begins, the record kind, 0 at the end, and the payload's numbers.
+// Stays (C interface): a number is returned, and 0 stands for what is not there.
 pub fn oq3_read_step(file: &[u8], answer: &mut [u64]) -> u32
     ensures { reads_step file.now answer.old ≡ returns result answer.new }
 {
@@ -93,7 +56,10 @@ pub fn oq3_read_step(file: &[u8], answer: &mut [u64]) -> u32
     }
     let f = stepfile::front(file);
     tell(answer, stepfile::width(f), of_front(f));
-    f.code()
+    match f {
+        Ok(_) => 0,
+        Err(e) => e.code(),
+    }
 }
 
 // The whole file: its place and its records.
@@ -103,8 +69,16 @@ pub fn oq3_read_file(file: &[u8], answer: &mut [u64]) -> u32
     if answer.len() < 2 {
         return 100;
     }
-    let a = stepfile::read_file(file);
-    answer[0] = a.place() as u64;
-    answer[1] = a.records() as u64;
-    a.code()
+    match stepfile::read_file(file) {
+        Ok(good) => {
+            answer[0] = good.bytes as u64;
+            answer[1] = good.records as u64;
+            0
+        }
+        Err(e) => {
+            answer[0] = e.place() as u64;
+            answer[1] = 0;
+            e.code()
+        }
+    }
 }

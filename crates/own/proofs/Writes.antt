@@ -2,7 +2,7 @@
 -- Assumes nothing.
 use Prim.Native.Nat.{ℕ, ◌+◌, ◌≤◌}
 use native.Mathlib.Omega.{arith}
-use mathlib.Core.Path.{◌≡◌, sym, ap, ◌∙◌}
+use mathlib.Core.Path.{◌≡◌, ap, ◌∙◌}
 use mathlib.Core.List.{List, [], ◌∷◌}
 use lib.Dec.{eqb}
 use lib.ListN.{length}
@@ -14,7 +14,7 @@ use Rattle.records.specs.declared.Step.{Step}
 use Rattle.records.specs.declared.Step.TheVariants.{Enter as enter, Error as error, Expected as expected}
 use Rattle.records.specs.Record.{record_of, step_bytes, bytes, Wrote}
 use Rattle.records.proofs.Writes.{wrote_none, bytes_one}
-use Rattle.own.specs.Own.{own, reports, cost}
+use Rattle.own.specs.Own.{own, cost}
 
 -- a start with a kind asks for its enter, one without for nothing
 pub own-kind : (e : Event) (k d : ℕ) → e ≡ Start k d → (k ≡ 0 → ⊥) → own e ≡ enter k ∷ []
@@ -23,10 +23,7 @@ own-kind e k d q n = ap own q ∙ rw (ne_eqb k 0 n)
 pub own-none : (e : Event) (k d : ℕ) → e ≡ Start k d → k ≡ 0 → own e ≡ []
 own-none e k d q z = ap own q ∙ rw (eq-eqb k 0 z)
 
--- an error asks for its report
-pub own-error : (e : Event) (c x f : ℕ) (s : Step) → e ≡ Error c x f → s ≡ reports c x f → own e ≡ s ∷ []
-own-error e c x f s q r = ap own q ∙ ap (λ (t : Step). t ∷ []) (sym r)
-
+-- the bytes of one step
 pub cost-one : (e : Event) (s : Step) → own e ≡ s ∷ [] → cost e ≡ length (record_of s)
 cost-one e s q = rw (q, bytes_one)
 

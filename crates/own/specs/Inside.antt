@@ -1,7 +1,13 @@
 -- What the contracts of the code inside cite: two words that say an event, and a wide write.
-use Rattle.std.specs.Prelude.{ℕ, ◌+◌, ◌*◌, ◌/◌, ◌%◌, ◌≡◌, List, [], ◌∷◌, ◌++◌, length, take, drop}
+use Rattle.std.specs.Prelude.{ℕ, ◌+◌, ◌*◌, ◌/◌, ◌%◌, ◌≡◌, List, [], ◌∷◌, ◌++◌, length, take, drop, Option, Some, None}
 use Rattle.event.specs.declared.Event.TheVariants.{NoEvent}
+use Rattle.records.specs.declared.Step.{Step}
 use Rattle.event.specs.Event.{decode}
+
+-- one step, or none
+abbrev pub listed : Option Step → List Step
+listed (Some s) = s ∷ []
+listed None = []
 
 -- two words that say an event
 abbrev pub Say : ℕ → ℕ → Type 0

@@ -5,32 +5,34 @@
 ghost use Rattle.std.specs.Prelude.{◌≡◌, ◌+◌, ◌/◌, ◌%◌, ◌<◌, ◌≤◌, length, get_or};
 ghost use Rattle.event.specs.Event.{decode, distance};
 ghost use Rattle.records.specs.Record.{bytes, over, Wrote};
-ghost use Rattle.own.specs.Own.{own, reports, cost};
-ghost use Rattle.own.specs.Inside.{Say, heads, le64, Laid};
+ghost use Rattle.own.specs.Own.{own, cost};
+ghost use Rattle.own.specs.Inside.{listed, Say, heads, le64, Laid};
 
 use event::Event;
 use records::{ENTER, LEAVE, Step, TOKEN, put, size};
 
-// The step of an error: "expected KIND", which is code 1, has what was found.
-fn report(c: u16, x: u16, f: u16) -> Step
-    ensures { result ≡ reports c x f }
+// The step that an event asks for itself, where it asks for one: no chain comes into it.
+fn step_of(e: Event) -> Option<Step>
+    ensures { own e ≡ listed result }
 {
-    if c == 1 {
-        return Step::Expected(x, f);
+    match e {
+        Event::Start(0, _) | Event::NoEvent(..) => None,
+        Event::Start(k, _) => Some(Step::Enter(k)),
+        Event::Finish => Some(Step::Leave),
+        Event::Token(k, n) => Some(Step::Token(k, n)),
+        // "expected KIND" has what was found
+        Event::Error(1, x, f) => Some(Step::Expected(x, f)),
+        Event::Error(c, x, _) => Some(Step::Error(c, x)),
     }
-    Step::Error(c, x)
 }
 
-// The bytes of what an event asks for itself: no chain comes into it.
+// The bytes of it.
 pub fn cost(e: Event) -> usize
     ensures { result ≡ cost e }
 {
-    match e {
-        Event::Start(k, _) => if k == 0 { 0 } else { 6 },
-        Event::Finish => 4,
-        Event::Token(_, _) => 7,
-        Event::Error(c, x, f) => size(report(c, x, f)),
-        Event::NoEvent(_, _) => 0,
+    match step_of(e) {
+        Some(s) => size(s),
+        None => 0,
     }
 }
 
@@ -47,17 +49,9 @@ pub fn put_own(out: &mut [u8], at: usize, e: Event) -> usize
     requires { at + cost e ≤ length out.old }
     ensures { Wrote out.old at (bytes (own e)) result out.new }
 {
-    match e {
-        Event::Start(k, _) => {
-            if k == 0 {
-                return at;
-            }
-            put(out, at, Step::Enter(k))
-        }
-        Event::Finish => put(out, at, Step::Leave),
-        Event::Token(k, n) => put(out, at, Step::Token(k, n)),
-        Event::Error(c, x, f) => put(out, at, report(c, x, f)),
-        Event::NoEvent(_, _) => at,
+    match step_of(e) {
+        Some(s) => put(out, at, s),
+        None => at,
     }
 }
 
@@ -78,14 +72,7 @@ fn put_u64(out: &mut [u8], at: usize, n: u64)
     requires { at + 8 ≤ length out.old }
     ensures { out.new ≡ over out.old at (le64 n) }
 {
-    out[at] = (n % 256) as u8;
-    out[at + 1] = (n / 256 % 256) as u8;
-    out[at + 2] = (n / 65536 % 256) as u8;
-    out[at + 3] = (n / 16777216 % 256) as u8;
-    out[at + 4] = (n / 4294967296 % 256) as u8;
-    out[at + 5] = (n / 1099511627776 % 256) as u8;
-    out[at + 6] = (n / 281474976710656 % 256) as u8;
-    out[at + 7] = (n / 72057594037927936 % 256) as u8;
+    out[at..at + 8].copy_from_slice(&n.to_le_bytes());
 }
 
 // Writes what the event of two words asks for itself, in one write of eight bytes: what is past its record is to be written over. No

@@ -4,7 +4,7 @@ use mathlib.Core.Bool.{Bool, true, false, not, cond}
 use Prim.Native.Nat.{ℕ, ◌≤◌, ◌<◌}
 use borrow.Author.Tests.{lt-ltb, le-ltb}
 use Rattle.laws.proofs.Tests.{apart}
-use Rattle.runtime.specs.declared.parser.Parser.{Parser}
+use Rattle.runtime.specs.State.{Parser}
 use Rattle.runtime.specs.State.{live}
 use Rattle.runtime.specs.Acts.{stopped}
 use Rattle.parse.specs.declared.Entry.{Entry}

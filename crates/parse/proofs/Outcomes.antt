@@ -1,17 +1,18 @@
 -- The outcome of a parse, case by case. Assumes nothing.
-use mathlib.Core.Path.{◌≡◌, sym, ap, ◌∙◌, subst}
+use mathlib.Core.Path.{◌≡◌, refl, sym, ap, ◌∙◌, subst}
 use mathlib.Core.List.{List}
 use Prim.Native.Nat.{ℕ, ◌+◌, ◌-◌, ◌*◌, ◌/◌, ◌≤◌, ◌<◌}
 use native.Mathlib.Omega.{arith}
 use lib.ListN.{length}
 use borrow.Author.Tests.{eq-eqb, ne_eqb, lt-ltb, le-ltb}
-use Rattle.runtime.specs.declared.parser.Parser.{Parser}
+use Rattle.runtime.specs.State.{Parser}
 use Rattle.input.specs.Input.{Env, env, most_tokens}
-use Rattle.runtime.specs.State.{St, view, new}
+use Rattle.runtime.specs.State.{St, view, new, Known}
 use Rattle.runtime.specs.Acts.{Acts, Does}
 use Rattle.event.proofs.Rooms.{length-events, first-words}
 use Rattle.runtime.proofs.Runs.{held-run}
-use Rattle.parse.specs.declared.Answer.{Answer}
+use Rattle.runtime.proofs.Known.{known-run}
+use Rattle.parse.specs.Parse.{Answer}
 use Rattle.parse.specs.Parse.{Lent, ends, says, refuses, first_fault, acts_of, ran, number_of, zeroed, settled, parsed}
 
 -- a run from `Parser::new()`
@@ -23,6 +24,10 @@ pub has_words : (e : Env) (m : Acts (Unit {0})) (p : Parser) (room mid : List �
 has_words e m p room mid d =
     let h : p.len ≤ length (view p mid).room = subst (λ (s : St). s.p.len ≤ length s.room) (ap (λ (x : Unit {0} × St). x.1) d.same) (held-run e m (view new room) (omega arith)) in
     omega (arith, length-events mid, h)
+
+-- its refusal is one of its own
+pub is-known : (e : Env) (m : Acts (Unit {0})) (p : Parser) (room mid : List ℕ) → Does e m (view new room) tt (view p mid) → Known p
+is-known e m p room mid d = subst (λ (x : Unit {0} × St). Known x.1.p) d.same (known-run e m (view new room) (λ z. absurd (z refl)))
 
 -- What a run comes to: its list and zeros, or zeros.
 module _ (n : ℕ) (p : Parser) (ws out : List ℕ) where

@@ -2,7 +2,7 @@
 use Rattle.std.specs.Prelude.{Bool, cond, List, [], ◌∷◌, ◌++◌, ℕ, suc, ◌+◌, ◌-◌, ◌*◌, ◌/◌, eqb, ltb, length, take, replicate}
 use Rattle.kinds.specs.Membership.{one_of}
 use Rattle.kinds.specs.Sets.{PERMITTED}
-use Rattle.runtime.specs.declared.parser.Parser.{Parser}
+use Rattle.runtime.specs.State.{Parser}
 use Rattle.input.specs.Input.{env, most_tokens}
 use Rattle.event.specs.Event.{event_words, words_of}
 use Rattle.runtime.specs.State.{St, view, new, live}
@@ -12,7 +12,6 @@ use Rattle.operators.specs.Operators.{table_of}
 use Rattle.grammar.specs.Entry.{source_file, one_item, one_expression}
 use Rattle.parse.specs.declared.Entry.{Entry}
 use Rattle.parse.specs.declared.Entry.TheVariants.{SourceFile, Item, Expression}
-use Rattle.parse.specs.declared.Answer.{Answer}
 
 -- all that is lent
 pub record Lent : Type 0 where
@@ -25,6 +24,13 @@ pub record Lent : Type 0 where
 abbrev pub lent : Entry → ℕ → List ℕ → List ℕ → List ℕ → Lent
 lent entry mode kinds joints room = record { entry = entry; mode = mode; kinds = kinds; joints = joints; room = room }
 
+-- an answer's number, place, events and lookups
+pub record Answer : Type 0 where
+  pub code : ℕ
+  pub place : ℕ
+  pub events : ℕ
+  pub lookups : ℕ
+
 -- all that is answered and left
 pub record Outcome : Type 0 where
   pub answer : Answer
@@ -33,10 +39,10 @@ pub record Outcome : Type 0 where
 abbrev pub ends : Answer → List ℕ → Outcome
 ends a ws = record { answer = a; room = ws }
 
--- an answer's number, place, events and lookups; a refusal has neither events nor lookups
 abbrev pub says : ℕ → ℕ → ℕ → ℕ → Answer
 says code place events lookups = record { code = code; place = place; events = events; lookups = lookups }
 
+-- a refusal has neither events nor lookups
 abbrev pub refuses : ℕ → ℕ → Answer
 refuses code place = says code place 0 0
 

@@ -21,11 +21,11 @@ pub beyond : (t : List ℕ) (i : ℕ) → length t ≤ i → eqb (get_or t i 0) 
 beyond t i h = ne_eqb _ 10 (λ (e : get_or t i 0 ≡ 10). omega (arith, get_or-eq_default t 0 {n = i} h))
 
 -- no more lines have ended than bytes stand before, and a line begins no later than its bytes
-pub ended-le : (t : List ℕ) (n : ℕ) → ended t n ≤ n
+pub ended_le : (t : List ℕ) (n : ℕ) → ended t n ≤ n
 unfolding ended
-ended-le t zero = omega arith
-ended-le t (suc n) =
-    let h = ended-le t n in
+ended_le t zero = omega arith
+ended_le t (suc n) =
+    let h = ended_le t n in
     by-test (λ (x : ℕ). x ≤ suc n) (ends t n) _ _ (λ e. omega arith) (λ e. omega arith)
 
 pub began-le : (t : List ℕ) (n : ℕ) → began t n ≤ n
@@ -36,20 +36,20 @@ began-le t (suc n) =
     by-test (λ (x : ℕ). x ≤ suc n) (ends t n) _ _ (λ e. omega arith) (λ e. omega arith)
 
 -- a spot behind a byte with which a line ends, and behind another
-pub spot-ends : (t : List ℕ) (s : Spot) → s ≡ spot t s.at → ends t s.at ≡ true → ◌≡◌ {A = Spot} (record { at = s.at + 1; lines = s.lines + 1; start = s.at + 1 }) (spot t (s.at + 1))
+pub spot_ends : (t : List ℕ) (s : Spot) → s ≡ spot t s.at → ends t s.at ≡ true → ◌≡◌ {A = Spot} (record { at = s.at + 1; lines = s.lines + 1; start = s.at + 1 }) (spot t (s.at + 1))
 unfolding ended began
-spot-ends t s h e = rw (add-one s.at, e, ap (λ (x : Spot). x.lines) h)
+spot_ends t s h e = rw (add-one s.at, e, ap (λ (x : Spot). x.lines) h)
 
-pub spot-goes : (t : List ℕ) (s : Spot) → s ≡ spot t s.at → ends t s.at ≡ false → ◌≡◌ {A = Spot} (record { at = s.at + 1; lines = s.lines; start = s.start }) (spot t (s.at + 1))
+pub spot_goes : (t : List ℕ) (s : Spot) → s ≡ spot t s.at → ends t s.at ≡ false → ◌≡◌ {A = Spot} (record { at = s.at + 1; lines = s.lines; start = s.start }) (spot t (s.at + 1))
 unfolding ended began
-spot-goes t s h e = rw (add-one s.at, e, ap (λ (x : Spot). x.lines) h, ap (λ (x : Spot). x.start) h)
+spot_goes t s h e = rw (add-one s.at, e, ap (λ (x : Spot). x.lines) h, ap (λ (x : Spot). x.start) h)
 
 -- of so many tokens no more are no trivia
-pub passed-le : (ws : List ℕ) (i : ℕ) → passed ws i ≤ i
+pub passed_le : (ws : List ℕ) (i : ℕ) → passed ws i ≤ i
 unfolding passed
-passed-le ws zero = omega arith
-passed-le ws (suc i) =
-    let h = passed-le ws i in
+passed_le ws zero = omega arith
+passed_le ws (suc i) =
+    let h = passed_le ws i in
     by-test (λ (x : ℕ). x ≤ suc i) (is_trivia (kind_of ws i)) _ _ (λ e. omega arith) (λ e. omega arith)
 
 -- a cursor behind a token that is trivia, and behind another
@@ -60,13 +60,13 @@ module _ (t ws : List ℕ) (c : Cursor) (s : Spot) (n : ℕ) (h : c ≡ cursor t
       let a = ap (λ (x : Cursor). x.spot.at) h in
       e ∙ ap (spot t) (rw (add-one c.token) (omega arith))
 
-  pub past-trivia : is_trivia (kind_of ws c.token) ≡ true → ◌≡◌ {A = Cursor} (record { token = c.token + 1; place = c.place; spot = s }) (cursor t ws (c.token + 1))
+  pub past_trivia : is_trivia (kind_of ws c.token) ≡ true → ◌≡◌ {A = Cursor} (record { token = c.token + 1; place = c.place; spot = s }) (cursor t ws (c.token + 1))
   unfolding passed
-  past-trivia k = rw (spot_past, add-one c.token, k, ap (λ (x : Cursor). x.place) h)
+  past_trivia k = rw (spot_past, add-one c.token, k, ap (λ (x : Cursor). x.place) h)
 
-  pub past-other : is_trivia (kind_of ws c.token) ≡ false → ◌≡◌ {A = Cursor} (record { token = c.token + 1; place = c.place + 1; spot = s }) (cursor t ws (c.token + 1))
+  pub past_other : is_trivia (kind_of ws c.token) ≡ false → ◌≡◌ {A = Cursor} (record { token = c.token + 1; place = c.place + 1; spot = s }) (cursor t ws (c.token + 1))
   unfolding passed
-  past-other k = rw (spot_past, add-one c.token, k, ap (λ (x : Cursor). x.place) h)
+  past_other k = rw (spot_past, add-one c.token, k, ap (λ (x : Cursor). x.place) h)
 
 -- where a walk ends it has come to the token with the place, and where it goes on it does not pass it
 module _ (ws : List ℕ) (p i : ℕ) (l : i ≤ count ws) (m : passed ws i ≤ p) where
@@ -111,14 +111,14 @@ module _ (t ws : List ℕ) (p : ℕ) (c : Cursor) (h : Stands t ws c) (m : c.pla
 
 -- a cursor's line begins no later than it stands, which is in the text, and no more lines have ended there than bytes stand before it
 module _ (t ws : List ℕ) (c : Cursor) (h : c ≡ cursor t ws c.token) where
-  pub starts-before : c.spot.start ≤ c.spot.at
-  starts-before = omega (arith, ap (λ (x : Cursor). x.spot.start) h, ap (λ (x : Cursor). x.spot.at) h, began-le t (byte_of t ws c.token))
+  pub starts_before : c.spot.start ≤ c.spot.at
+  starts_before = omega (arith, ap (λ (x : Cursor). x.spot.start) h, ap (λ (x : Cursor). x.spot.at) h, began-le t (byte_of t ws c.token))
 
   pub in-text : c.spot.at ≤ length t
   in-text = omega (arith, ap (λ (x : Cursor). x.spot.at) h)
 
-  pub few-lines : c.spot.lines ≤ length t
-  few-lines = omega (arith, ap (λ (x : Cursor). x.spot.lines) h, ended-le t (byte_of t ws c.token))
+  pub few_lines : c.spot.lines ≤ length t
+  few_lines = omega (arith, ap (λ (x : Cursor). x.spot.lines) h, ended_le t (byte_of t ws c.token))
 
   pub few-columns : c.spot.at - c.spot.start ≤ length t
   few-columns = omega (arith, in-text)

@@ -30,113 +30,64 @@ pub struct Cursor {
     pub spot: Spot,
 }
 
+// A text, and the list of all its tokens: two words for each, its kind and its bytes.
+#[derive(Clone, Copy)]
+pub struct Listed<'a> {
+    pub text: &'a [u8],
+    pub words: &'a [u32],
+}
+
 // Whether a line ends with a byte: with LF, and with CR where no LF follows it.
+#[tactic(auto, using(crate::proofs::Moves::beyond), unfolding(crate::specs::Position::ends))]
 fn ends_line(text: &[u8], i: usize) -> bool
     requires { i < length text.now }
     ensures { result ≡ ends text.now i }
 {
-    if text[i] == b'\n' {
-        return true;
+    match text[i] {
+        b'\n' => true,
+        b'\r' => text.get(i + 1) != Some(&b'\n'),
+        _ => false,
     }
-    if text[i] != b'\r' {
-        return false;
-    }
-    if i + 1 < text.len() {
-        return text[i + 1] != b'\n';
-    }
-    true
 }
 
 // A spot moved past a byte.
+#[tactic(auto, using(crate::proofs::Moves::spot_ends, crate::proofs::Moves::spot_goes, crate::proofs::Moves::ended_le))]
 fn past_byte(text: &[u8], s: Spot) -> Spot
     requires s_value { s ≡ spot text.now s.at }
     requires at_in_bounds { s.at < length text.now }
     ensures { result ≡ spot text.now (s.at + 1) }
 {
-    let at = s.at;
-    if ends_line(text, at) {
+    if ends_line(text, s.at) {
         return Spot {
-            at: at + 1,
+            at: s.at + 1,
             lines: s.lines + 1,
-            start: at + 1,
+            start: s.at + 1,
         };
     }
-    Spot {
-        at: at + 1,
-        lines: s.lines,
-        start: s.start,
-    }
+    Spot { at: s.at + 1, ..s }
 }
 
+// Stays (plainer): `past_byte` says where the next spot is; no index is counted here, nor in `moved`.
 // A spot moved past so many bytes, and no further than the end of the text.
 fn past_bytes(text: &[u8], from: Spot, bytes: usize) -> Spot
     requires from_value { from ≡ spot text.now from.at }
     requires at_in_bounds { from.at ≤ length text.now }
     ensures { result ≡ spot text.now (min (from.at + bytes) (length text.now)) }
 {
+    let end = text.len().min(from.at.saturating_add(bytes));
     let mut s = from;
-    let mut left = bytes;
-    while left > 0 {
-        if s.at >= text.len() {
-            return s;
-        }
+    while s.at < end {
         s = past_byte(text, s);
-        left -= 1;
     }
     s
 }
 
 // Whether a kind is trivia.
+#[tactic(auto, unfolding(crate::specs::Position::is_trivia))]
 fn is_trivia(kind: u32) -> bool
     ensures { result ≡ is_trivia kind }
 {
-    if kind == k::WHITESPACE as u32 {
-        return true;
-    }
-    kind == k::COMMENT as u32
-}
-
-fn wide(x: u32) -> usize
-    ensures { result ≡ x }
-{
-    x as usize
-}
-
-// A cursor moved past a token.
-fn past_token(text: &[u8], words: &[u32], c: Cursor) -> Cursor
-    requires c_value { c ≡ cursor text.now words.now c.token }
-    requires token_bound { c.token < count words.now }
-    ensures { result ≡ cursor text.now words.now (c.token + 1) }
-{
-    let i = c.token;
-    let here = c.spot;
-    let spot = past_bytes(text, here, wide(words[2 * i + 1]));
-    if is_trivia(words[2 * i]) {
-        return Cursor {
-            token: i + 1,
-            place: c.place,
-            spot,
-        };
-    }
-    Cursor {
-        token: i + 1,
-        place: c.place + 1,
-        spot,
-    }
-}
-
-// Whether a cursor stands before the token with a place, or at the end of the list.
-fn has_come(words: &[u32], c: Cursor, place: usize) -> bool
-    ensures { result ≡ has_come words.now place c.token c.place }
-{
-    let i = c.token;
-    if i >= words.len() / 2 {
-        return true;
-    }
-    if is_trivia(words[2 * i]) {
-        return false;
-    }
-    c.place >= place
+    kind == k::WHITESPACE as u32 || kind == k::COMMENT as u32
 }
 
 // The cursor at the beginning of a text; `begins-stands` in proofs/Theorems: it stands in each.
@@ -154,38 +105,77 @@ pub fn start() -> Cursor
     }
 }
 
-// A cursor moved on to the token with a place, the end of the text where there is none. It stands at no later one.
-pub fn moved(text: &[u8], words: &[u32], from: Cursor, place: usize) -> Cursor
-    requires stands { Stands text.now words.now from }
-    requires place_le_place { from.place ≤ place }
-    ensures value { result ≡ cursor text.now words.now (token_of words.now place) }
-    ensures stands_2 { (Stands text.now words.now result) × (result.place ≤ place) }
-{
-    let mut c = from;
-    while !has_come(words, c, place) {
-        c = past_token(text, words, c);
+impl Listed<'_> {
+    // A cursor moved past a token.
+    #[tactic(auto, using(crate::proofs::Moves::passed_le, crate::proofs::Moves::past_trivia, crate::proofs::Moves::past_other))]
+    fn past_token(self, c: Cursor) -> Cursor
+        requires c_value { c ≡ cursor self.text.now self.words.now c.token }
+        requires token_bound { c.token < count self.words.now }
+        ensures { result ≡ cursor self.entry.text.now self.entry.words.now (c.token + 1) }
+    {
+        let bytes = self.words[2 * c.token + 1] as usize;
+        let spot = past_bytes(self.text, c.spot, bytes);
+        let moved = Cursor {
+            token: c.token + 1,
+            spot,
+            ..c
+        };
+        if is_trivia(self.words[2 * c.token]) {
+            return moved;
+        }
+        Cursor {
+            place: c.place + 1,
+            ..moved
+        }
     }
-    c
-}
 
-// The line and the column of a cursor.
-pub fn position_at(text: &[u8], words: &[u32], c: Cursor) -> Position
-    requires stands { Stands text.now words.now c }
-    requires text_len_bound { length text.now + 1 < 2 ^ 64 }
-    ensures { result ≡ position text.now (byte_of text.now words.now c.token) }
-{
-    let s = c.spot;
-    Position {
-        line: s.lines as u64 + 1,
-        column: (s.at - s.start) as u64 + 1,
+    // Whether a cursor stands before the token with a place, or at the end of the list.
+    #[tactic(auto, unfolding(crate::specs::Inside::has_come))]
+    fn has_come(self, c: Cursor, place: usize) -> bool
+        ensures { result ≡ has_come self.entry.words.now place c.token c.place }
+    {
+        if c.token >= self.words.len() / 2 {
+            return true;
+        }
+        if is_trivia(self.words[2 * c.token]) {
+            return false;
+        }
+        c.place >= place
     }
-}
 
-// The line and the column of the token with a place, those of the end of the text where there is none.
-pub fn position_of(text: &[u8], words: &[u32], place: usize) -> Position
-    requires { length text.now + 1 < 2 ^ 64 }
-    ensures { result ≡ position_of text.now words.now place }
-{
-    let c = moved(text, words, start(), place);
-    position_at(text, words, c)
+    // A cursor moved on to the token with a place, the end of the text where there is none. It stands at no later one.
+    pub fn moved(self, from: Cursor, place: usize) -> Cursor
+        requires stands { Stands self.text.now self.words.now from }
+        requires place_le_place { from.place ≤ place }
+        ensures value { result ≡ cursor self.entry.text.now self.entry.words.now (token_of self.entry.words.now place) }
+        ensures stands_2 { (Stands self.entry.text.now self.entry.words.now result) × (result.place ≤ place) }
+    {
+        let mut c = from;
+        while !self.has_come(c, place) {
+            c = self.past_token(c);
+        }
+        c
+    }
+
+    // The line and the column of a cursor.
+    #[tactic(auto, using(crate::proofs::Moves::starts_before, crate::proofs::Moves::few_lines))]
+    pub fn position_at(self, c: Cursor) -> Position
+        requires stands { Stands self.text.now self.words.now c }
+        requires text_len_bound { length self.text.now + 1 < 2 ^ 64 }
+        ensures { result ≡ position self.entry.text.now (byte_of self.entry.text.now self.entry.words.now c.token) }
+    {
+        let s = c.spot;
+        Position {
+            line: s.lines as u64 + 1,
+            column: (s.at - s.start) as u64 + 1,
+        }
+    }
+
+    // The line and the column of the token with a place, those of the end of the text where there is none.
+    pub fn position_of(self, place: usize) -> Position
+        requires { length self.text.now + 1 < 2 ^ 64 }
+        ensures { result ≡ position_of self.entry.text.now self.entry.words.now place }
+    {
+        self.position_at(self.moved(start(), place))
+    }
 }

@@ -12,7 +12,7 @@ use Rattle.laws.proofs.Tests.{apart}
 use Rattle.lexical.specs.Lexed.{Token, lexed}
 use Rattle.lexical.specs.Rules.{rules}
 use Rattle.lexical.proofs.Theorem.{lexed-right}
-use Rattle.lex.specs.declared.Answer.{Answer}
+use Rattle.lex.specs.Answer.{Answer}
 use Rattle.lex.specs.Lexing.{kinds_in, fits, Lent, Outcome, ends, says, refuses, writes, lexing}
 use Rattle.lex.proofs.Laws.{Held, held}
 use Rattle.lex.proofs.Placed.{written, refused, too_long, not-long}

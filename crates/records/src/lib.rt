@@ -40,58 +40,41 @@ pub fn size(s: Step) -> usize
     }
 }
 
-// Writes a number at a place, in two bytes; the place past it. So do the others below, with what they write.
-fn put_u16(out: &mut [u8], at: usize, n: u16) -> usize
-    requires { at + 2 ≤ length out.old }
-    ensures { Wrote out.old at (le16 n) result out.new }
+// Writes bytes at a place; the place past them.
+// Stays (plainer): a room and a place; a writer that holds both would be made anew for each event, as a chain is written back to front.
+fn put_bytes(out: &mut [u8], at: usize, bytes: &[u8]) -> usize
+    requires { at + length bytes.now ≤ length out.old }
+    ensures { Wrote out.old at bytes.now result out.new }
 {
-    out[at] = (n % 256) as u8;
-    out[at + 1] = (n / 256) as u8;
-    at + 2
+    let past = at + bytes.len();
+    out[at..past].copy_from_slice(bytes);
+    past
 }
 
-fn put_u8(out: &mut [u8], at: usize, n: u8) -> usize
-    requires { at + 1 ≤ length out.old }
-    ensures { Wrote out.old at (n ∷ []) result out.new }
-{
-    out[at] = n;
-    at + 1
-}
-
-fn put_head(out: &mut [u8], at: usize, size: u16, kind: u16) -> usize
-    requires { at + 4 ≤ length out.old }
-    ensures { Wrote out.old at (le16 size ++ le16 kind) result out.new }
-{
-    let p = put_u16(out, at, size);
-    put_u16(out, p, kind)
-}
-
-// A step's record.
+// Writes a step's record at a place; the place past it. A record is its payload's length and its kind, in two bytes each, and the payload.
 pub fn put(out: &mut [u8], at: usize, s: Step) -> usize
     requires { at + length (record_of s) ≤ length out.old }
     ensures { Wrote out.old at (record_of s) result out.new }
 {
     match s {
         Step::Enter(kind) => {
-            let p = put_head(out, at, 2, 1);
-            put_u16(out, p, kind)
+            let [k, l] = kind.to_le_bytes();
+            put_bytes(out, at, &[2, 0, 1, 0, k, l])
         }
-        Step::Leave => put_head(out, at, 0, 2),
+        Step::Leave => put_bytes(out, at, &[0, 0, 2, 0]),
         Step::Token(kind, count) => {
-            let p = put_head(out, at, 3, 3);
-            let q = put_u16(out, p, kind);
-            put_u8(out, q, count)
+            let [k, l] = kind.to_le_bytes();
+            put_bytes(out, at, &[3, 0, 3, 0, k, l, count])
         }
         Step::Error(code, argument) => {
-            let p = put_head(out, at, 4, 4);
-            let q = put_u16(out, p, code);
-            put_u16(out, q, argument)
+            let [c, d] = code.to_le_bytes();
+            let [a, b] = argument.to_le_bytes();
+            put_bytes(out, at, &[4, 0, 4, 0, c, d, a, b])
         }
         Step::Expected(kind, found) => {
-            let p = put_head(out, at, 6, 5);
-            let q = put_u16(out, p, 1);
-            let r = put_u16(out, q, kind);
-            put_u16(out, r, found)
+            let [k, l] = kind.to_le_bytes();
+            let [f, g] = found.to_le_bytes();
+            put_bytes(out, at, &[6, 0, 5, 0, 1, 0, k, l, f, g])
         }
     }
 }

@@ -1,4 +1,6 @@
 -- The twelve loops of the grammar's definition: none of them ends because its rounds run out, whatever it is run on. Assumes nothing.
+use Rattle.runtime.specs.declared.parser.Completed.{Completed}
+use Rattle.std.specs.Prelude.{Option, None}
 use mathlib.Core.Path.{◌≡◌, refl, sym, ap, ◌∙◌}
 use mathlib.Core.Bool.{Bool, true, false, not, ◌&&◌, cond}
 use mathlib.Core.List.{List}
@@ -14,8 +16,6 @@ use Rattle.runtime.proofs.Laws.{run_bind, goes_same, left-goes, left-sees, left-
 use Rattle.laws.proofs.Tests.{apart}
 use Rattle.operators.specs.declared.Op.{Op}
 use Rattle.operators.specs.Operators.{Table, Fair, current_op, arms, arm_of}
-use Rattle.grammar.specs.declared.Got.{Got}
-use Rattle.grammar.specs.declared.Mark.TheVariants.{Fresh}
 use Rattle.grammar.specs.declared.Shape.{Shape}
 use Rattle.grammar.specs.Grammar as G
 use Rattle.grammar.specs.Expressions as E
@@ -51,7 +51,7 @@ list_tells sh = record { still = λ e s. still e s (sees e s.p EOF); there = λ 
     told e s false h = refl
 
 -- a round behind a test that holds ends as the last one, or goes on
-pub delimited-on : (ket delim : ℕ) (first : List ℕ) (parser : Acts Got) → Spends parser → Onward (G.delimited_round ket delim first parser)
+pub delimited-on : (ket delim : ℕ) (first : List ℕ) (parser : Acts (Option (Completed × Bool))) → Spends parser → Onward (G.delimited_round ket delim first parser)
 unfolding G.delimited_round
 delimited-on ket delim first parser h = guarded (goes_on ket) (goes-tells ket) _ _ (λ x. spends-first parser _ h) (λ Q e x s. on-last Q e tt s)
 
@@ -62,11 +62,11 @@ module _ (ops : Table) (n : ℕ) where
 
   pub tuple-on : Onward (A.tuple_expr_round (counted ops n))
   unfolding A.tuple_expr_round
-  tuple-on = guarded (goes_on R-PAREN) (goes-tells R-PAREN) _ _ (λ x. spends-first _ _ (expr_bp-spends ops n Fresh false 1)) (λ Q e x s. on-last Q e x s)
+  tuple-on = guarded (goes_on R-PAREN) (goes-tells R-PAREN) _ _ (λ x. spends-first _ _ (expr_bp-spends ops n None false 1)) (λ Q e x s. on-last Q e x s)
 
   pub array-on : Onward (A.array_expr_round (counted ops n))
   unfolding A.array_expr_round
-  array-on = guarded (goes_on R-BRACK) (goes-tells R-BRACK) _ _ (λ x. spends-first _ _ (expr_bp-spends ops n Fresh false 1)) (λ Q e x s. on-last Q e x s)
+  array-on = guarded (goes_on R-BRACK) (goes-tells R-BRACK) _ _ (λ x. spends-first _ _ (expr_bp-spends ops n None false 1)) (λ Q e x s. on-last Q e x s)
 
   pub index_on : Onward (E.indexed_identifier_round (counted ops n))
   unfolding E.indexed_identifier_round
@@ -94,8 +94,8 @@ module _ (ops : Table) (n : ℕ) where
   pub type-on : Onward (E.array_type_spec_round (counted ops n))
   unfolding E.array_type_spec_round run step
   type-on e x s =
-      on-alive e _ s (spends-first _ _ (expr_bp-spends ops n Fresh false 1))
-      (on_then Alive e ((counted ops n).expr_bp Fresh false 1) _ s
+      on-alive e _ s (spends-first _ _ (expr_bp-spends ops n None false 1))
+      (on_then Alive e ((counted ops n).expr_bp None false 1) _ s
       (on_then Alive e (at R-BRACK) _ r
       (on-cond Alive e (sees e r.p R-BRACK) (bump_any >> done (last tt)) (expect COMMA >> (is_refused >>= asked)) r
       (λ q. on_then Alive e bump_any (λ u. done (last tt)) r (on-last Alive e tt _))
@@ -110,7 +110,7 @@ module _ (ops : Table) (n : ℕ) where
       asked over = cond over (done (last tt)) (done (more tt))
 
       r : St
-      r = (run e ((counted ops n).expr_bp Fresh false 1) s).1
+      r = (run e ((counted ops n).expr_bp None false 1) s).1
 
       t : St
       t = (run e (expect COMMA) r).1

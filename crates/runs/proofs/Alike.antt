@@ -15,7 +15,7 @@ use Rattle.input.specs.Glue.{parts_of, raw_count}
 use Rattle.event.specs.declared.Event.{Event}
 use Rattle.event.specs.declared.Event.TheVariants.{Start, Finish, Token, Error, NoEvent}
 use Rattle.event.specs.Event.{holds, is_start, is_bare, with_kind, with_distance}
-use Rattle.runtime.specs.declared.parser.Parser.{Parser}
+use Rattle.runtime.specs.State.{Parser}
 use Rattle.runtime.specs.State.{St, most_looks, live, refusal, holding, looked, halted, stop_number, numbers, refuse, rewritten, popped, event_at, push_event, enough, consume, consumed, do_bump, named, linked, dropped, gap}
 use Rattle.runtime.specs.Cover.{events}
 use Rattle.runtime.specs.Acts.{Act, Act.looks, Act.peeks, Act.eats, Act.takes, Act.starts, Act.completes, Act.abandons, Act.precedes, Act.extends, Act.fails, Act.lacks, Act.stops, Act.asks, Answer, kind_ahead, nth_sees, sees, stopped, step, Acts, Acts.done, Acts.act, run}

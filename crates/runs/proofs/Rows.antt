@@ -7,7 +7,7 @@ use lib.ListN.{replicate}
 use Rattle.kinds.specs.Kinds.{TOMBSTONE, EOF, COMMA, L-CURLY, R-CURLY, DOT, DOT2, DOT3, DOT2EQ, R-ANGLE, EQ, EQ2, GTEQ, SHR, SHREQ, IDENT, SEMICOLON, ERROR, NAME, BIN-EXPR}
 use Rattle.kinds.specs.Membership.{bit, one_of}
 use Rattle.kinds.specs.Sets.{EMPTY, ITEM-RECOVERY-SET}
-use Rattle.runtime.specs.declared.parser.Parser.{Parser}
+use Rattle.runtime.specs.State.{Parser}
 use Rattle.runtime.specs.declared.parser.Completed.{Completed}
 use Rattle.runtime.specs.declared.parser.Stop.TheVariants.{Deep, Panic}
 use Rattle.input.specs.Input.{Env, env, seen}

@@ -7,6 +7,7 @@ mod show;
 
 ghost use Rattle.std.specs.Prelude.{true, ◌≡◌, IfOk};
 
+use named::SETS;
 use std::io;
 use std::io::Write;
 
@@ -15,10 +16,8 @@ fn show_all<W: Write>(out: &mut W) -> io::Result<bool>
     ensures { IfOk result (λ r. r ≡ true) }
 {
     let mut agree = true;
-    let mut n = 0;
-    while n < named::SETS {
-        agree = agree & show::show(out, n, named::nth(n))?;
-        n += 1;
+    for (name, set) in SETS {
+        agree &= show::show(out, name, set)?;
     }
     Ok(agree)
 }
@@ -26,7 +25,7 @@ fn show_all<W: Write>(out: &mut W) -> io::Result<bool>
 fn main(rt: HostRuntime) -> io::Result<()> {
     let mut out = io::writer(&rt);
     if show_all(&mut out)? {
-        text::put(&mut out, b"% sets agree\n", &[named::SETS])?;
+        writeln!(out, "{} sets agree", SETS.len())?;
     }
     Ok(())
 }

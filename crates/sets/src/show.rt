@@ -1,14 +1,13 @@
 // A set's line: its name, the ones of its words, and the kinds that its listing has.
-ghost use Rattle.std.specs.Prelude.{length, true, cond, ◌≡◌, IfOk, OnErr};
+ghost use Rattle.std.specs.Prelude.{length, true, ◌≡◌, IfOk, OnErr};
 ghost use Rattle.kinds.specs.Membership.{once};
 ghost use Rattle.kinds.specs.Sets.{kinds_of};
 
-use crate::named::names;
 use kinds::sets::{Fixed, set_of};
 use std::io;
 use std::io::Write;
-use text::table::put_entry;
 
+// Stays (plainer): two answers about one set of numbers; neither is there for the other alone.
 // What is found by asking every number from 0 to 65,535.
 #[derive(Clone, Copy)]
 pub struct Asked {
@@ -18,12 +17,6 @@ pub struct Asked {
     pub same: bool,
 }
 
-fn one(yes: bool) -> u64
-    ensures { result ≡ cond yes 1 0 }
-{
-    if yes { 1 } else { 0 }
-}
-
 // Asks the listing and the words of every number.
 fn ask(set: Fixed) -> Asked
     ensures { (result.listed ≡ length (once (kinds_of set))) × (result.same ≡ true) }
@@ -31,22 +24,13 @@ fn ask(set: Fixed) -> Asked
     let words = set_of(set);
     let mut listed = 0;
     let mut same = true;
-    let mut n: u32 = 0;
-    while n < 65536 {
+    for n in 0..65536u32 {
         let kind = n as u16;
         let has = set.has(kind);
-        listed += one(has);
-        same = same & (has == words.contains(kind));
-        n += 1;
+        listed += u64::from(has);
+        same &= has == words.contains(kind);
     }
     Asked { listed, same }
-}
-
-// The counts of a set's line, behind its name.
-fn put_counts<W: Write>(out: &mut W, n: u64, ones: u64, listed: u64) -> io::Result<()> {
-    let table = names();
-    put_entry(out, &table, n)?;
-    text::put(out, b" % %", &[ones, listed])
 }
 
 // A line's end. One that says DIFFERENT is told even where it cannot be written.
@@ -55,19 +39,19 @@ fn put_end<W: Write>(out: &mut W, agree: bool) -> io::Result<bool>
     ensures failed { OnErr result (agree ≡ true) }
 {
     if agree {
-        out.write_all(b"\n")?;
+        writeln!(out)?;
         return Ok(true);
     }
-    let _ = out.write_all(b" DIFFERENT\n");
+    let _ = writeln!(out, " DIFFERENT");
     Ok(false)
 }
 
-// Writes the line of a set that has a number. Whether its words and its listing agree.
-pub fn show<W: Write>(out: &mut W, n: u64, set: Fixed) -> io::Result<bool>
+// Writes the line of a set that has a name. Whether its words and its listing agree.
+pub fn show<W: Write>(out: &mut W, name: &str, set: Fixed) -> io::Result<bool>
     ensures { IfOk result (λ r. r ≡ true) }
 {
-    let ones = set.count() as u64;
+    let ones = u64::from(set.count());
     let asked = ask(set);
-    put_counts(out, n, ones, asked.listed)?;
+    write!(out, "{name} {ones} {}", asked.listed)?;
     put_end(out, asked.same & (ones == asked.listed))
 }

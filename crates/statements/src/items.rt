@@ -1,170 +1,136 @@
 // src/grammar/items.rs: what calls nothing recursive.
+// Stays (rule): a function for each of the crate, under its name, also where two differ by a keyword and a node alone.
 ghost use Rattle.std.specs.Prelude.{◌≡◌};
-ghost use Rattle.input.specs.Input.{env};
-ghost use Rattle.runtime.specs.State.{view, Fit};
+ghost use Rattle.input.specs.Lent.{tokens};
+ghost use Rattle.runtime.specs.State.{view};
 ghost use Rattle.runtime.specs.Acts.{Does, Peeks, Steps};
 ghost use Rattle.grammar.specs.Items as acts;
 ghost use Rattle.kinds.specs.Sets.{kinds_of};
 
+use input::Input;
 use kinds::sets::Fixed;
 use kinds::{messages as say, syntax_kind as kind, syntax_kind_enum as k};
 use runtime::parser::Parser;
 
-pub fn break_(kinds: &[u16], joints: &[u64], room: &mut [u32], p: Parser, m: u32) -> Parser
-    requires { Fit p }
-    ensures { Does (env kinds.now joints.now) (acts.break m) (view p room.old) tt (view result room.new) }
+pub fn break_(input: &Input, room: &mut [u32], p: Parser, m: u32) -> Parser
+    ensures { Does (tokens input.now) (acts.break m) (view p room.old) tt (view result room.new) }
 {
-    let p1 = p.bump(kinds, joints, room, k::BREAK_KW);
-    let t = p1.expect(kinds, joints, room, k::SEMICOLON);
-    let p2 = t.p;
-    let d = p2.complete(room, m, k::BREAK_STMT);
-    d.p
+    let p = p.bump(input, room, k::BREAK_KW);
+    let (p, _) = p.expect(input, room, k::SEMICOLON);
+    let (p, _) = p.complete(room, m, k::BREAK_STMT);
+    p
 }
 
-pub fn continue_(kinds: &[u16], joints: &[u64], room: &mut [u32], p: Parser, m: u32) -> Parser
-    requires { Fit p }
-    ensures { Does (env kinds.now joints.now) (acts.continue m) (view p room.old) tt (view result room.new) }
+pub fn continue_(input: &Input, room: &mut [u32], p: Parser, m: u32) -> Parser
+    ensures { Does (tokens input.now) (acts.continue m) (view p room.old) tt (view result room.new) }
 {
-    let p1 = p.must(kinds, joints, room, k::CONTINUE_KW);
-    let p2 = p1.bump(kinds, joints, room, k::CONTINUE_KW);
-    let t = p2.expect(kinds, joints, room, k::SEMICOLON);
-    let p3 = t.p;
-    let d = p3.complete(room, m, k::CONTINUE_STMT);
-    d.p
+    let p = p.must(input, room, k::CONTINUE_KW);
+    let p = p.bump(input, room, k::CONTINUE_KW);
+    let (p, _) = p.expect(input, room, k::SEMICOLON);
+    let (p, _) = p.complete(room, m, k::CONTINUE_STMT);
+    p
 }
 
-pub fn end_(kinds: &[u16], joints: &[u64], room: &mut [u32], p: Parser, m: u32) -> Parser
-    requires { Fit p }
-    ensures { Does (env kinds.now joints.now) (acts.end m) (view p room.old) tt (view result room.new) }
+pub fn end_(input: &Input, room: &mut [u32], p: Parser, m: u32) -> Parser
+    ensures { Does (tokens input.now) (acts.end m) (view p room.old) tt (view result room.new) }
 {
-    let p1 = p.must(kinds, joints, room, k::END_KW);
-    let p2 = p1.bump(kinds, joints, room, k::END_KW);
-    let t = p2.expect(kinds, joints, room, k::SEMICOLON);
-    let p3 = t.p;
-    let d = p3.complete(room, m, k::END_STMT);
-    d.p
+    let p = p.must(input, room, k::END_KW);
+    let p = p.bump(input, room, k::END_KW);
+    let (p, _) = p.expect(input, room, k::SEMICOLON);
+    let (p, _) = p.complete(room, m, k::END_STMT);
+    p
 }
 
-fn filepath_r(kinds: &[u16], joints: &[u64], room: &mut [u32], p: Parser, recovery: Fixed) -> Parser
-    requires { Fit p }
-    ensures { Does (env kinds.now joints.now) (acts.filepath_r (kinds_of recovery)) (view p room.old) tt (view result room.new) }
+fn filepath_r(input: &Input, room: &mut [u32], p: Parser, recovery: Fixed) -> Parser
+    ensures { Does (tokens input.now) (acts.filepath_r (kinds_of recovery)) (view p room.old) tt (view result room.new) }
 {
-    if p.at(kinds, joints, k::STRING) {
-        let s = p.start(room);
-        let p1 = s.p;
-        let p2 = p1.bump(kinds, joints, room, k::STRING);
-        let d = p2.complete(room, s.m, k::FILE_PATH);
-        return d.p;
+    if p.at(input, k::STRING) {
+        let (p, m) = p.start(room);
+        let p = p.bump(input, room, k::STRING);
+        let (p, _) = p.complete(room, m, k::FILE_PATH);
+        return p;
     }
-    p.err_recover(
-        kinds,
-        joints,
-        room,
-        say::EXPECTED_A_PATH_TO_A_FILE,
-        recovery,
-    )
+    p.err_recover(input, room, say::EXPECTED_A_PATH_TO_A_FILE, recovery)
 }
 
-pub fn defcalgrammar_(kinds: &[u16], joints: &[u64], room: &mut [u32], p: Parser, m: u32) -> Parser
-    requires { Fit p }
-    ensures { Does (env kinds.now joints.now) (acts.defcalgrammar m) (view p room.old) tt (view result room.new) }
+pub fn defcalgrammar_(input: &Input, room: &mut [u32], p: Parser, m: u32) -> Parser
+    ensures { Does (tokens input.now) (acts.defcalgrammar m) (view p room.old) tt (view result room.new) }
 {
-    let p1 = p.bump(kinds, joints, room, k::DEFCALGRAMMAR_KW);
-    let p2 = filepath_r(kinds, joints, room, p1, Fixed::ItemRecoverySet);
-    let t = p2.expect(kinds, joints, room, k::SEMICOLON);
-    let p3 = t.p;
-    let d = p3.complete(room, m, k::DEF_CAL_GRAMMAR);
-    d.p
+    let p = p.bump(input, room, k::DEFCALGRAMMAR_KW);
+    let p = filepath_r(input, room, p, Fixed::ItemRecoverySet);
+    let (p, _) = p.expect(input, room, k::SEMICOLON);
+    let (p, _) = p.complete(room, m, k::DEF_CAL_GRAMMAR);
+    p
 }
 
-pub fn include(kinds: &[u16], joints: &[u64], room: &mut [u32], p: Parser, m: u32) -> Parser
-    requires { Fit p }
-    ensures { Does (env kinds.now joints.now) (acts.include m) (view p room.old) tt (view result room.new) }
+pub fn include(input: &Input, room: &mut [u32], p: Parser, m: u32) -> Parser
+    ensures { Does (tokens input.now) (acts.include m) (view p room.old) tt (view result room.new) }
 {
-    let p1 = p.bump(kinds, joints, room, k::INCLUDE_KW);
-    let p2 = filepath_r(kinds, joints, room, p1, Fixed::ItemRecoverySet);
-    let t = p2.expect(kinds, joints, room, k::SEMICOLON);
-    let p3 = t.p;
-    let d = p3.complete(room, m, k::INCLUDE);
-    d.p
+    let p = p.bump(input, room, k::INCLUDE_KW);
+    let p = filepath_r(input, room, p, Fixed::ItemRecoverySet);
+    let (p, _) = p.expect(input, room, k::SEMICOLON);
+    let (p, _) = p.complete(room, m, k::INCLUDE);
+    p
 }
 
 // Where no version number stands, what stands there is passed, unless it is `;`.
-fn skip_to_semicolon(
-    kinds: &[u16],
-    joints: &[u64],
-    room: &mut [u32],
-    p: Parser,
-    number: bool,
-) -> Parser
-    requires { Fit p }
-    ensures { Does (env kinds.now joints.now) (acts.skip_to_semicolon number) (view p room.old) tt (view result room.new) }
+fn skip_to_semicolon(input: &Input, room: &mut [u32], p: Parser, number: bool) -> Parser
+    ensures { Does (tokens input.now) (acts.skip_to_semicolon number) (view p room.old) tt (view result room.new) }
 {
     if number {
         return p;
     }
-    if p.at(kinds, joints, k::SEMICOLON) {
+    if p.at(input, k::SEMICOLON) {
         return p;
     }
-    p.bump_any(kinds, joints, room)
+    p.bump_any(input, room)
 }
 
-fn version_(kinds: &[u16], joints: &[u64], room: &mut [u32], p: Parser) -> Parser
-    requires { Fit p }
-    ensures { Does (env kinds.now joints.now) acts.version (view p room.old) tt (view result room.new) }
+fn version_(input: &Input, room: &mut [u32], p: Parser) -> Parser
+    ensures { Does (tokens input.now) acts.version (view p room.old) tt (view result room.new) }
 {
-    let s = p.start(room);
-    let p1 = s.p;
-    let t = p1.expect(kinds, joints, room, k::FLOAT_NUMBER);
-    let p2 = t.p;
-    let p3 = skip_to_semicolon(kinds, joints, room, p2, t.yes);
-    let u = p3.expect(kinds, joints, room, k::SEMICOLON);
-    let p4 = u.p;
-    let d = p4.complete(room, s.m, k::VERSION);
-    d.p
+    let (p, m) = p.start(room);
+    let (p, met) = p.expect(input, room, k::FLOAT_NUMBER);
+    let p = skip_to_semicolon(input, room, p, met);
+    let (p, _) = p.expect(input, room, k::SEMICOLON);
+    let (p, _) = p.complete(room, m, k::VERSION);
+    p
 }
 
-pub fn version_string(kinds: &[u16], joints: &[u64], room: &mut [u32], p: Parser, m: u32) -> Parser
-    requires { Fit p }
-    ensures { Does (env kinds.now joints.now) (acts.version_string m) (view p room.old) tt (view result room.new) }
+pub fn version_string(input: &Input, room: &mut [u32], p: Parser, m: u32) -> Parser
+    ensures { Does (tokens input.now) (acts.version_string m) (view p room.old) tt (view result room.new) }
 {
-    let p1 = p.bump(kinds, joints, room, k::O_P_E_N_Q_A_S_M_KW);
-    let p2 = version_(kinds, joints, room, p1);
-    let d = p2.complete(room, m, k::VERSION_STRING);
-    d.p
+    let p = p.bump(input, room, k::O_P_E_N_Q_A_S_M_KW);
+    let p = version_(input, room, p);
+    let (p, _) = p.complete(room, m, k::VERSION_STRING);
+    p
 }
 
 // The error of an input or output whose type is not classical.
-pub fn io_type(kinds: &[u16], joints: &[u64], room: &mut [u32], p: Parser) -> Parser
-    requires { Fit p }
-    ensures { Does (env kinds.now joints.now) acts.io_type (view p room.old) tt (view result room.new) }
+pub fn io_type(input: &Input, room: &mut [u32], p: Parser) -> Parser
+    ensures { Does (tokens input.now) acts.io_type (view p room.old) tt (view result room.new) }
 {
-    let l = p.current(kinds, joints);
-    let p1 = l.p;
-    if kind::is_classical_type(l.kind) {
-        return p1;
+    let (p, here) = p.current(input);
+    if kind::is_classical_type(here) {
+        return p;
     }
-    p1.error(room, say::QUANTUM_TYPE_FOUND_IN_INPUT_OUTPUT_DECLARATION, 0)
+    p.error(room, say::QUANTUM_TYPE_FOUND_IN_INPUT_OUTPUT_DECLARATION, 0)
 }
 
 // The end of a qubit's declaration: its name.
-pub fn qubit_end(kinds: &[u16], joints: &[u64], room: &mut [u32], p: Parser, m: u32) -> Parser
-    requires { Fit p }
-    ensures { Does (env kinds.now joints.now) (acts.qubit_end m) (view p room.old) tt (view result room.new) }
+pub fn qubit_end(input: &Input, room: &mut [u32], p: Parser, m: u32) -> Parser
+    ensures { Does (tokens input.now) (acts.qubit_end m) (view p room.old) tt (view result room.new) }
 {
-    if p.at(kinds, joints, k::HARDWAREIDENT) {
-        let h = grammar::hardware_qubit(kinds, joints, room, p);
-        let p1 = h.p;
-        let t = p1.expect(kinds, joints, room, k::SEMICOLON);
-        let p2 = t.p;
-        let d = p2.complete(room, m, k::QUANTUM_DECLARATION_STATEMENT);
-        return d.p;
+    if p.at(input, k::HARDWAREIDENT) {
+        let (p, _) = grammar::hardware_qubit(input, room, p);
+        let (p, _) = p.expect(input, room, k::SEMICOLON);
+        let (p, _) = p.complete(room, m, k::QUANTUM_DECLARATION_STATEMENT);
+        return p;
     }
-    let p3 = grammar::var_name(kinds, joints, room, p);
-    let t = p3.expect(kinds, joints, room, k::SEMICOLON);
-    let p4 = t.p;
-    let d = p4.complete(room, m, k::QUANTUM_DECLARATION_STATEMENT);
-    d.p
+    let p = grammar::var_name(input, room, p);
+    let (p, _) = p.expect(input, room, k::SEMICOLON);
+    let (p, _) = p.complete(room, m, k::QUANTUM_DECLARATION_STATEMENT);
+    p
 }
 
 // Whether a classical declaration begins with these two kinds.

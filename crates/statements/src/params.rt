@@ -1,14 +1,15 @@
 // src/grammar/params.rs: what calls nothing recursive.
 ghost use Rattle.std.specs.Prelude.{◌≡◌};
-ghost use Rattle.input.specs.Input.{env};
-ghost use Rattle.runtime.specs.State.{view, Fit};
+ghost use Rattle.input.specs.Lent.{tokens};
+ghost use Rattle.runtime.specs.State.{view};
 ghost use Rattle.runtime.specs.Acts.{Does, Peeks, Steps};
 ghost use Rattle.grammar.specs.Params as acts;
 
 use grammar::{DefFlavor, How, Shape};
+use input::Input;
 use kinds::sets::Fixed;
 use kinds::{messages as say, syntax_kind as kind, syntax_kind_enum as k};
-use runtime::parser::{Parser, Started, Told};
+use runtime::parser::Parser;
 
 fn make(parens: bool, end: u16, end2: u16, one: bool, node: u16, how: How) -> Shape
     ensures { result ≡ acts.shape parens end end2 one node how }
@@ -100,103 +101,77 @@ pub fn shape_of(flavor: DefFlavor) -> Shape
     }
 }
 
-pub fn param_untyped(kinds: &[u16], joints: &[u64], room: &mut [u32], p: Parser, m: u32) -> Told
-    requires { Fit p }
-    ensures { Does (env kinds.now joints.now) (acts.param_untyped m) (view p room.old) result.yes (view result.p room.new) }
+pub fn param_untyped(input: &Input, room: &mut [u32], p: Parser, m: u32) -> (Parser, bool)
+    ensures { Does (tokens input.now) (acts.param_untyped m) (view p room.old) result.1 (view result.0 room.new) }
 {
-    if p.at(kinds, joints, k::IDENT) {
-        let p1 = p.bump(kinds, joints, room, k::IDENT);
-        let d = p1.complete(room, m, k::PARAM);
-        let p2 = d.p;
-        return Told { p: p2, yes: true };
+    if p.at(input, k::IDENT) {
+        let p = p.bump(input, room, k::IDENT);
+        let (p, _) = p.complete(room, m, k::PARAM);
+        return (p, true);
     }
-    let p3 = p.error(room, say::EXPECTED_PARAMETER_NAME, 0);
-    let p4 = p3.abandon(room, m);
-    Told { p: p4, yes: false }
+    let p = p.error(room, say::EXPECTED_PARAMETER_NAME, 0);
+    let p = p.abandon(room, m);
+    (p, false)
 }
 
 // The list's start, and its parenthesis.
-pub fn list_open(
-    kinds: &[u16],
-    joints: &[u64],
-    room: &mut [u32],
-    p: Parser,
-    shape: Shape,
-) -> Started
-    requires { Fit p }
-    ensures { Does (env kinds.now joints.now) (acts.list_open shape) (view p room.old) result.m (view result.p room.new) }
+pub fn list_open(input: &Input, room: &mut [u32], p: Parser, shape: Shape) -> (Parser, u32)
+    ensures { Does (tokens input.now) (acts.list_open shape) (view p room.old) result.1 (view result.0 room.new) }
 {
-    let s = p.start(room);
-    let p1 = s.p;
+    let (p, m) = p.start(room);
     if shape.parens {
-        let p2 = p1.bump(kinds, joints, room, k::L_PAREN);
-        return Started { p: p2, m: s.m };
+        let p = p.bump(input, room, k::L_PAREN);
+        return (p, m);
     }
-    Started { p: p1, m: s.m }
+    (p, m)
 }
 
 // Whether the list ends here.
-fn at_list_end(kinds: &[u16], joints: &[u64], p: Parser, shape: Shape) -> bool
-    requires { Fit p }
-    ensures { result ≡ acts.ends_here (env kinds.now joints.now) p shape }
+fn at_list_end(input: &Input, p: Parser, shape: Shape) -> bool
+    ensures { result ≡ acts.ends_here (tokens input.now) p shape }
 {
-    if p.at(kinds, joints, shape.end) {
-        return true;
-    }
-    p.at(kinds, joints, shape.end2)
+    p.at(input, shape.end) || p.at(input, shape.end2)
 }
 
 // Whether the list goes on here.
-pub fn list_goes(kinds: &[u16], joints: &[u64], p: Parser, shape: Shape) -> bool
-    requires { Fit p }
-    ensures { result ≡ acts.goes_here (env kinds.now joints.now) p shape }
+pub fn list_goes(input: &Input, p: Parser, shape: Shape) -> bool
+    ensures { result ≡ acts.goes_here (tokens input.now) p shape }
 {
-    if p.at(kinds, joints, k::EOF) {
-        return false;
-    }
-    if at_list_end(kinds, joints, p, shape) {
-        return false;
-    }
-    true
+    !p.at(input, k::EOF) && !at_list_end(input, p, shape)
 }
 
 // Whether a parameter begins here.
-pub fn param_ahead(kinds: &[u16], joints: &[u64], p: Parser) -> Told
-    requires { Fit p }
-    ensures { Peeks (env kinds.now joints.now) acts.param_ahead p result.yes result.p }
+pub fn param_ahead(input: &Input, p: Parser) -> (Parser, bool)
+    ensures { Peeks (tokens input.now) acts.param_ahead p result.1 result.0 }
 {
-    let l = p.current(kinds, joints);
-    let p1 = l.p;
-    if kind::is_type(l.kind) {
-        return Told { p: p1, yes: true };
+    let (p, here) = p.current(input);
+    if kind::is_type(here) {
+        return (p, true);
     }
-    p1.at_ts(kinds, joints, Fixed::ParamFirst)
+    p.at_ts(input, Fixed::ParamFirst)
 }
 
 // After a parameter: whether another one is to follow.
-pub fn list_next(kinds: &[u16], joints: &[u64], room: &mut [u32], p: Parser, shape: Shape) -> Told
-    requires { Fit p }
-    ensures { Does (env kinds.now joints.now) (acts.list_next shape) (view p room.old) result.yes (view result.p room.new) }
+pub fn list_next(input: &Input, room: &mut [u32], p: Parser, shape: Shape) -> (Parser, bool)
+    ensures { Does (tokens input.now) (acts.list_next shape) (view p room.old) result.1 (view result.0 room.new) }
 {
-    if at_list_end(kinds, joints, p, shape) {
-        return Told { p, yes: false };
+    if at_list_end(input, p, shape) {
+        return (p, false);
     }
-    if p.at(kinds, joints, k::COMMA) {
-        let p1 = p.bump(kinds, joints, room, k::COMMA);
-        return Told { p: p1, yes: true };
+    if p.at(input, k::COMMA) {
+        let p = p.bump(input, room, k::COMMA);
+        return (p, true);
     }
-    let t = p.at_ts(kinds, joints, Fixed::ParamFirst);
-    let p2 = t.p;
-    if t.yes {
-        let p3 = p2.error(room, say::EXPECTED_COMMA, 0);
-        return Told { p: p3, yes: true };
+    let (p, begins) = p.at_ts(input, Fixed::ParamFirst);
+    if begins {
+        let p = p.error(room, say::EXPECTED_COMMA, 0);
+        return (p, true);
     }
-    Told { p: p2, yes: false }
+    (p, false)
 }
 
 // The error of an empty list where one must not be.
 fn list_empty(room: &mut [u32], p: Parser, one: bool, n: u32) -> Parser
-    requires { Fit p }
     ensures { Steps (acts.list_empty one n) (view p room.old) tt (view result room.new) }
 {
     if one {
@@ -208,25 +183,15 @@ fn list_empty(room: &mut [u32], p: Parser, one: bool, n: u32) -> Parser
 }
 
 // The list's end, after n parameters.
-pub fn list_end(
-    kinds: &[u16],
-    joints: &[u64],
-    room: &mut [u32],
-    p: Parser,
-    m: u32,
-    shape: Shape,
-    n: u32,
-) -> Parser
-    requires { Fit p }
-    ensures { Does (env kinds.now joints.now) (acts.list_end m shape n) (view p room.old) tt (view result room.new) }
+pub fn list_end(input: &Input, room: &mut [u32], p: Parser, m: u32, shape: Shape, n: u32) -> Parser
+    ensures { Does (tokens input.now) (acts.list_end m shape n) (view p room.old) tt (view result room.new) }
 {
-    let p1 = list_empty(room, p, shape.one, n);
+    let p = list_empty(room, p, shape.one, n);
     if shape.parens {
-        let t = p1.expect(kinds, joints, room, k::R_PAREN);
-        let p2 = t.p;
-        let d = p2.complete(room, m, shape.node);
-        return d.p;
+        let (p, _) = p.expect(input, room, k::R_PAREN);
+        let (p, _) = p.complete(room, m, shape.node);
+        return p;
     }
-    let d = p1.complete(room, m, shape.node);
-    d.p
+    let (p, _) = p.complete(room, m, shape.node);
+    p
 }

@@ -9,14 +9,14 @@ use lib.Dec.{eqb, ltb}
 use lib.ListN.{length, get_or, take}
 use lib.Seq.{take-length, get_or-drop}
 use borrow.Author.Tests.{ne_eqb, lt-ltb, le-ltb, eqb-true, ltb-true, ltb-false}
+use Rattle.std.specs.Prelude.{Some, None, Ok, Err}
 use Rattle.records.specs.declared.Step.{Step}
 use Rattle.records.specs.declared.Step.TheVariants.{Enter, Leave, Error}
 use Rattle.records.specs.Record.{record_of, bytes, Sound as SoundStep, Sounds}
 use Rattle.laws.proofs.Tests.{by-test}
 use Rattle.records.proofs.Writes.{bytes-append}
-use Rattle.stepfile.specs.declared.Found.{Found}
-use Rattle.stepfile.specs.declared.Found.TheVariants as F
-use Rattle.stepfile.specs.declared.Nodes.TheVariants.{Open, Fault}
+use Rattle.stepfile.specs.Front.{Found}
+use Rattle.stepfile.specs.declared.Fault.TheVariants as F
 use Rattle.stepfile.specs.Front.{two, step_of, front, behind}
 use Rattle.stepfile.specs.Answer.{Numbers, says, refuses}
 use Rattle.stepfile.specs.Nesting.{nest}
@@ -32,8 +32,8 @@ use Rattle.stepfile.proofs.Depths.{depth, enters-append, leaves-append, Reaches,
 -- ---- the front of a file, by what it is
 
 pub data View (bs : List ℕ) : Found → Type 0 where
-  empty : bs ≡ [] → View bs F.End
-  short : 0 < length bs → length bs < 4 + two bs 0 → View bs F.Cut
+  empty : bs ≡ [] → View bs (Ok None)
+  short : 0 < length bs → length bs < 4 + two bs 0 → View bs (Err F.Cut)
   whole : 0 < length bs → 4 + two bs 0 ≤ length bs → View bs (step_of (two bs 2) (two bs 0) bs)
 
 pub view : (bs : List ℕ) → View bs (front bs)
@@ -45,7 +45,7 @@ view (x ∷ bs) =
     (λ l. short (omega arith) (ltb-true (length (x ∷ bs)) (4 + two (x ∷ bs) 0) l))
     (λ l. whole (omega arith) (ltb-false (length (x ∷ bs)) (4 + two (x ∷ bs) 0) l)))
 
-pub front_cut : (bs : List ℕ) → 0 < length bs → length bs < 4 + two bs 0 → front bs ≡ F.Cut
+pub front_cut : (bs : List ℕ) → 0 < length bs → length bs < 4 + two bs 0 → front bs ≡ Err F.Cut
 unfolding front
 front_cut bs h l = rw (ne_eqb (length bs) 0 (λ z. omega arith), lt-ltb (length bs) (4 + two bs 0) l)
 
@@ -53,7 +53,7 @@ pub front-whole : (bs : List ℕ) → 0 < length bs → 4 + two bs 0 ≤ length 
 unfolding front
 front-whole bs h l = rw (ne_eqb (length bs) 0 (λ z. omega arith), le-ltb (length bs) (4 + two bs 0) l)
 
-pub sound-not : (s : Step) → F.Sound s ≡ F.Unsound → ⊥
+pub sound-not : (s : Step) → Ok (Some s) ≡ Err F.Unsound → ⊥
 sound-not s e = let z : ◌≡◌ {A = ℕ} 0 1 = cc in omega arith
 
 -- ---- steps and their bytes, in two parts
@@ -72,51 +72,51 @@ bytes-cons s ss = refl
 
 -- ---- what a file reads as, step by step, is the file
 
-bytes-behind : (bs : List ℕ) (s : Step) → Bytes bs → front bs ≡ F.Sound s → Bytes (behind bs)
+bytes-behind : (bs : List ℕ) (s : Step) → Bytes bs → front bs ≡ Ok (Some s) → Bytes (behind bs)
 bytes-behind bs s h e i = rw (behind-step bs s e, get_or-drop) (h (length (record_of s) + i))
 
 pub record Told (bs : List ℕ) (w : Walked) : Type 0 where
   pub sound : Sounds w.steps
   pub file : bs ≡ bytes w.steps ++ w.rest
-  pub last : (s : Step) → front w.rest ≡ F.Sound s → ⊥
+  pub last : (s : Step) → front w.rest ≡ Ok (Some s) → ⊥
 
 pub tells : (n : ℕ) (bs : List ℕ) → length bs ≤ n → Bytes bs → Told bs (walked_in n bs)
 unfolding walked_in bytes
 tells zero [] h b = record { sound = tt; file = refl; last = ended-there }
   where
-    ended-there : (s : Step) → front [] ≡ F.Sound s → ⊥
+    ended-there : (s : Step) → front [] ≡ Ok (Some s) → ⊥
     ended-there s e = by (front []) (view []) s e
       where
-        by : (f : Found) → View [] f → (s : Step) → f ≡ F.Sound s → ⊥
+        by : (f : Found) → View [] f → (s : Step) → f ≡ Ok (Some s) → ⊥
         by f (empty q) s e = let z : ◌≡◌ {A = ℕ} 0 1 = cc in omega arith
         by f (short h l) s e = omega arith
         by f (whole h l) s e = omega arith
 tells zero (x ∷ bs) h b = absurd (omega arith)
 tells (suc n) bs h b = on (λ s e. tells n (behind bs) (shorter bs s n e h) (bytes-behind bs s b e)) (front bs) refl
   where
-    none : (f : Found) → front bs ≡ f → ((s : Step) → f ≡ F.Sound s → ⊥) → Told bs (record { steps = []; rest = bs })
+    none : (f : Found) → front bs ≡ f → ((s : Step) → f ≡ Ok (Some s) → ⊥) → Told bs (record { steps = []; rest = bs })
     none f e not = record { sound = tt; file = refl; last = λ s q. not s (sym e ∙ q) }
 
-    on : ((s : Step) → front bs ≡ F.Sound s → Told (behind bs) (walked_in n (behind bs))) → (f : Found) → front bs ≡ f → Told bs (walked_in (suc n) bs)
-    on ih (F.Sound s) e =
+    on : ((s : Step) → front bs ≡ Ok (Some s) → Told (behind bs) (walked_in n (behind bs))) → (f : Found) → front bs ≡ f → Told bs (walked_in (suc n) bs)
+    on ih (Ok (Some s)) e =
         let t = ih s e in
         let r = record-there bs b s e in
         rw e (record { sound = (r.1, t.sound); file = r.0 ∙ ap (λ (l : List ℕ). record_of s ++ l) t.file ∙ sym (append_assoc (record_of s) (bytes (walked_in n (behind bs)).steps) (walked_in n (behind bs)).rest); last = t.last })
-    on ih F.End e = rw e (none F.End e (λ s q. let z : ◌≡◌ {A = ℕ} 0 1 = cc in omega arith))
-    on ih F.Cut e = rw e (none F.Cut e (λ s q. let z : ◌≡◌ {A = ℕ} 0 1 = cc in omega arith))
-    on ih F.Unsound e = rw e (none F.Unsound e (λ s q. let z : ◌≡◌ {A = ℕ} 0 1 = cc in omega arith))
+    on ih (Ok None) e = rw e (none (Ok None) e (λ s q. let z : ◌≡◌ {A = ℕ} 0 1 = cc in omega arith))
+    on ih (Err F.Cut) e = rw e (none (Err F.Cut) e (λ s q. let z : ◌≡◌ {A = ℕ} 0 1 = cc in omega arith))
+    on ih (Err F.Unsound) e = rw e (none (Err F.Unsound) e (λ s q. let z : ◌≡◌ {A = ℕ} 0 1 = cc in omega arith))
 
 -- ---- from what is said to what holds
 
 -- steps that come to a depth are a file up to the place behind them
-abbrev upto : (bs : List ℕ) (ss : List Step) (rest : List ℕ) (d : ℕ) → depth 0 0 ss ≡ Open d → Sounds ss → bs ≡ bytes ss ++ rest → Upto bs (length (bytes ss))
+abbrev upto : (bs : List ℕ) (ss : List Step) (rest : List ℕ) (d : ℕ) → depth 0 0 ss ≡ Some d → Sounds ss → bs ≡ bytes ss ++ rest → Upto bs (length (bytes ss))
 upto bs ss rest d e h f =
     let q = (reaches-proceeds ss 0 0 d e).0 in
     record { steps = ss; rest = rest; sound = h; file = f; place = refl; begins = λ i z l. omega (arith, q.begins i (omega arith) l); never = λ i l. omega (arith, q.never i l) }
 
 -- a record whose kind, length, count or code is none that is sound
 unsound-at : (bs : List ℕ) (p : ℕ) (u : Upto bs p) → 0 < length u.rest → 4 + two u.rest 0 ≤ length u.rest
-    → step_of (two u.rest 2) (two u.rest 0) u.rest ≡ F.Unsound → Unsound bs p
+    → step_of (two u.rest 2) (two u.rest 0) u.rest ≡ Err F.Unsound → Unsound bs p
 unfolding step_of
 unsound-at bs p u h l e =
     record {
@@ -131,7 +131,7 @@ unsound-at bs p u h l e =
     }
 
 -- a whole record is a step or unsound
-pub either : (P : Found → Type 0) (kind size : ℕ) (bs : List ℕ) → ((s : Step) → P (F.Sound s)) → P F.Unsound → P (step_of kind size bs)
+pub either : (P : Found → Type 0) (kind size : ℕ) (bs : List ℕ) → ((s : Step) → P (Ok (Some s))) → P (Err F.Unsound) → P (step_of kind size bs)
 unfolding step_of
 either P kind size bs a b =
     by-test P (eqb kind 1) _ _ (λ _. one 2 _) (λ _.
@@ -140,17 +140,17 @@ either P kind size bs a b =
     by-test P (eqb kind 4) _ _ (λ _. one 4 _) (λ _.
     by-test P (eqb kind 5) _ _ (λ _. by-test P (eqb size 6) _ _ (λ _. by-test P (eqb (two bs 4) 1) _ _ (λ _. a _) (λ _. b)) (λ _. b)) (λ _. b)))))
   where
-    one : (n : ℕ) (s : Step) → P (cond (eqb size n) (F.Sound s) F.Unsound)
+    one : (n : ℕ) (s : Step) → P (cond (eqb size n) (Ok (Some s)) (Err F.Unsound))
     one n s = by-test P (eqb size n) _ _ (λ _. a s) (λ _. b)
 
 module _ (bs : List ℕ) (ss : List Step) (rest : List ℕ) (sounds : Sounds ss) (file : bs ≡ bytes ss ++ rest) where
   -- where the steps end: the end of the file, or a record that is cut or unsound
-  over-verdict : (f : Found) (d : ℕ) → depth 0 0 ss ≡ Open d → View rest f → ((s : Step) → f ≡ F.Sound s → ⊥) → Verdict bs (judged (length (bytes ss)) (length ss) d [] f)
+  over-verdict : (f : Found) (d : ℕ) → depth 0 0 ss ≡ Some d → View rest f → ((s : Step) → f ≡ Ok (Some s) → ⊥) → Verdict bs (judged (length (bytes ss)) (length ss) d [] f)
   unfolding judged
   over-verdict f d e (short h l) last = cut (length (bytes ss)) (record { upto = upto bs ss rest d e sounds file; some = h; past = l })
   over-verdict f d e (empty q) last = at-end ss sounds (file ∙ rw (q, append-nil)) d e
     where
-      at-end : (ts : List Step) → Sounds ts → bs ≡ bytes ts → (d : ℕ) → depth 0 0 ts ≡ Open d → Verdict bs (ended (length (bytes ts)) (length ts) d)
+      at-end : (ts : List Step) → Sounds ts → bs ≡ bytes ts → (d : ℕ) → depth 0 0 ts ≡ Some d → Verdict bs (ended (length (bytes ts)) (length ts) d)
       at-end [] h g d e = rw (ended-none (length (bytes [])) 0 d refl) (unnested _ (record { upto = upto bs [] [] d e h (g ∙ sym (append-nil (bytes []))); breaks = none refl refl }))
       at-end (t ∷ ts) h g zero e =
           let c = reaches-proceeds (t ∷ ts) 0 0 0 e in
@@ -168,7 +168,7 @@ module _ (bs : List ℕ) (ss : List Step) (rest : List ℕ) (sounds : Sounds ss)
       refl
 
   -- a sound record that breaks the nesting
-  broke-verdict : (s : Step) (more : List ℕ) (d : ℕ) → SoundStep s → rest ≡ record_of s ++ more → depth 0 0 ss ≡ Open d → nest (length ss) d s ≡ Fault → Verdict bs (refuses 13 (length (bytes ss)))
+  broke-verdict : (s : Step) (more : List ℕ) (d : ℕ) → SoundStep s → rest ≡ record_of s ++ more → depth 0 0 ss ≡ Some d → nest (length ss) d s ≡ None → Verdict bs (refuses 13 (length (bytes ss)))
   broke-verdict s more d h g e n =
       let c = reaches-proceeds ss 0 0 d e in
       unnested (length (bytes ss)) (record { upto = upto bs ss rest d e sounds file; breaks = by (why (length ss) d s n) c.1 })
@@ -200,7 +200,7 @@ verdict bs b = rw (agree (length bs) bs 0 0 0 (omega arith)) (on (ends (walked b
 proceeds : (bs : List ℕ) (p : ℕ) (u : Upto bs p) → Reaches 0 0 u.steps
 proceeds bs p u = proceeds-reaches u.steps 0 0 (record { begins = λ i z l. omega (arith, u.begins i (omega arith) l); never = λ i l. omega (arith, u.never i l) })
 
-from-there : (bs : List ℕ) (p : ℕ) (u : Upto bs p) (d : ℕ) → depth 0 0 u.steps ≡ Open d
+from-there : (bs : List ℕ) (p : ℕ) (u : Upto bs p) (d : ℕ) → depth 0 0 u.steps ≡ Some d
     → file_read bs ≡ judged p (length u.steps) d (walked u.rest).steps (front (walked u.rest).rest)
 from-there bs p u d e =
     agree (length bs) bs 0 0 0 (omega arith)
@@ -209,22 +209,22 @@ from-there bs p u d e =
     ∙ rw (zero-add (length (bytes u.steps)), zero-add (length u.steps)))
 
 -- where no step stands nothing is read
-pub stops : (n : ℕ) (bs : List ℕ) (f : Found) → front bs ≡ f → ((s : Step) → f ≡ F.Sound s → ⊥) → walked_in n bs ≡ record { steps = []; rest = bs }
+pub stops : (n : ℕ) (bs : List ℕ) (f : Found) → front bs ≡ f → ((s : Step) → f ≡ Ok (Some s) → ⊥) → walked_in n bs ≡ record { steps = []; rest = bs }
 unfolding walked_in
 stops zero bs f e h = refl
-stops (suc n) bs (F.Sound s) e h = absurd (h s refl)
-stops (suc n) bs F.End e h = rw e
-stops (suc n) bs F.Cut e h = rw e
-stops (suc n) bs F.Unsound e h = rw e
+stops (suc n) bs (Ok (Some s)) e h = absurd (h s refl)
+stops (suc n) bs (Ok None) e h = rw e
+stops (suc n) bs (Err F.Cut) e h = rw e
+stops (suc n) bs (Err F.Unsound) e h = rw e
 
 -- a record that breaks the nesting where it stands
-said-broke : (bs : List ℕ) (p : ℕ) (u : Upto bs p) (d : ℕ) (s : Step) (more : List ℕ) → depth 0 0 u.steps ≡ Open d → SoundStep s → u.rest ≡ record_of s ++ more
-    → nest (length u.steps) d s ≡ Fault → file_read bs ≡ refuses 13 p
+said-broke : (bs : List ℕ) (p : ℕ) (u : Upto bs p) (d : ℕ) (s : Step) (more : List ℕ) → depth 0 0 u.steps ≡ Some d → SoundStep s → u.rest ≡ record_of s ++ more
+    → nest (length u.steps) d s ≡ None → file_read bs ≡ refuses 13 p
 unfolding judged
 said-broke bs p u d s more e h g n = from-there bs p u d e ∙ rw (g, walked-first s more (h, tt), n)
 
 -- at the end of the file
-said-end : (bs : List ℕ) (p : ℕ) (u : Upto bs p) (d : ℕ) → depth 0 0 u.steps ≡ Open d → u.rest ≡ [] → file_read bs ≡ ended p (length u.steps) d
+said-end : (bs : List ℕ) (p : ℕ) (u : Upto bs p) (d : ℕ) → depth 0 0 u.steps ≡ Some d → u.rest ≡ [] → file_read bs ≡ ended p (length u.steps) d
 unfolding judged walked_in front
 said-end bs p u d e g = from-there bs p u d e ∙ rw g
 
@@ -243,12 +243,12 @@ all bs g = record { steps = g.steps; rest = []; sound = g.sound; file = g.file �
             let n : suc i ≡ length g.steps = omega (arith, ltb-false (suc i) (length g.steps) e) in
             rw (n, take-length) (omega (arith, g.zero))
 
-pub good-depth : (bs : List ℕ) (g : Good bs) → depth 0 0 g.steps ≡ Open 0
+pub good-depth : (bs : List ℕ) (g : Good bs) → depth 0 0 g.steps ≡ Some 0
 unfolding all
 good-depth bs g =
     let r : Reaches 0 0 g.steps = proceeds bs (length (bytes g.steps)) (all bs g) in
     let z : r.past ≡ 0 = omega (arith, r.count, g.zero) in
-    r.opens ∙ ap Open z
+    r.opens ∙ ap Some z
 
 gives-good : (bs : List ℕ) (g : Good bs) → file_read bs ≡ says 0 (length bs) (length g.steps)
 unfolding all
@@ -265,12 +265,12 @@ gives bs n (cut p c) =
     let u = c.upto in
     let r = proceeds bs p u in
     let e = front_cut u.rest c.some c.past in
-    from-there bs p u r.past r.opens ∙ rw (stops (length u.rest) u.rest F.Cut e (λ s q. let z : ◌≡◌ {A = ℕ} 0 1 = cc in omega arith), e)
+    from-there bs p u r.past r.opens ∙ rw (stops (length u.rest) u.rest (Err F.Cut) e (λ s q. let z : ◌≡◌ {A = ℕ} 0 1 = cc in omega arith), e)
 gives bs n (unsound p c) =
     let u = c.upto in
     let r = proceeds bs p u in
     let e = front-whole u.rest c.some c.whole ∙ no_record u.rest (two u.rest 2) (two u.rest 0) c.no-enter c.no-leave c.no-token c.no-error c.no-expected in
-    from-there bs p u r.past r.opens ∙ rw (stops (length u.rest) u.rest F.Unsound e (λ s q. let z : ◌≡◌ {A = ℕ} 0 1 = cc in omega arith), e)
+    from-there bs p u r.past r.opens ∙ rw (stops (length u.rest) u.rest (Err F.Unsound) e (λ s q. let z : ◌≡◌ {A = ℕ} 0 1 = cc in omega arith), e)
 gives bs n (unnested p c) = by c.upto (proceeds bs p c.upto) c.breaks
   where
     by : (u : Upto bs p) → Reaches 0 0 u.steps → Breaks u.steps u.rest → file_read bs ≡ refuses 13 p

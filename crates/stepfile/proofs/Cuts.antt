@@ -9,13 +9,12 @@ use lib.Dec.{eqb, ltb}
 use lib.ListN.{length, get_or, take, length-append}
 use lib.Seq.{length-take-le, take-append-le, take-append-add, get_or-take}
 use borrow.Author.Tests.{eq-eqb, ne_eqb, eqb-true, eqb-false, ltb-true, ltb-false}
+use Rattle.std.specs.Prelude.{Option, Some, None, Err}
 use Rattle.records.specs.declared.Step.{Step}
 use Rattle.records.specs.declared.Step.TheVariants.{Enter, Leave, Token, Error, Expected}
 use Rattle.records.specs.Record.{record_of, bytes, Sounds}
 use Rattle.laws.proofs.Tests.{by-test}
-use Rattle.stepfile.specs.declared.Found.TheVariants as F
-use Rattle.stepfile.specs.declared.Nodes.{Nodes}
-use Rattle.stepfile.specs.declared.Nodes.TheVariants.{Open, Fault}
+use Rattle.stepfile.specs.declared.Fault.TheVariants as F
 use Rattle.stepfile.specs.Front.{two, front}
 use Rattle.stepfile.specs.Answer.{refuses}
 use Rattle.stepfile.specs.Nesting.{nest, on_nodes, nests}
@@ -35,7 +34,7 @@ two_size (Token k n) = refl
 two_size (Error c x) = refl
 two_size (Expected k f) = refl
 
-cut-front : (s : Step) (n : ℕ) → 0 < n → n < length (record_of s) → front (take n (record_of s)) ≡ F.Cut
+cut-front : (s : Step) (n : ℕ) → 0 < n → n < length (record_of s) → front (take n (record_of s)) ≡ Err F.Cut
 cut-front s n h l = front_cut (take n (record_of s)) (omega (arith, m)) (on (ltb n 2) refl)
   where
     m : length (take n (record_of s)) ≡ n
@@ -58,12 +57,12 @@ eqb-shift a h k = on (eqb h k) refl
     on true e = eq-eqb (a + h) (a + k) (omega (arith, eqb-true h k e))
     on false e = ne_eqb (a + h) (a + k) (λ z. eqb-false h k e (omega arith))
 
-on-true : {A : Type 0} (m : Nodes) (g : ℕ → Bool) → on_nodes m g false ≡ true → ((p : ℕ) → m ≡ Open p → g p ≡ true → A) → A
-on-true (Open p) g e k = k p refl e
-on-true Fault g e k = let z : ◌≡◌ {A = ℕ} 0 1 = cc in absurd (omega arith)
+on-true : {A : Type 0} (m : Option ℕ) (g : ℕ → Bool) → on_nodes m g false ≡ true → ((p : ℕ) → m ≡ Some p → g p ≡ true → A) → A
+on-true (Some p) g e k = k p refl e
+on-true None g e k = let z : ◌≡◌ {A = ℕ} 0 1 = cc in absurd (omega arith)
 
 -- with no record, or with a node open, a file does not end well
-not-ended : (at r o : ℕ) (s : Step) (p : ℕ) → nest r o s ≡ Open p → ended at r o ≡ refuses 13 at
+not-ended : (at r o : ℕ) (s : Step) (p : ℕ) → nest r o s ≡ Some p → ended at r o ≡ refuses 13 at
 unfolding nest
 not-ended at zero o s p e = ended-none at 0 o refl
 not-ended at (suc r) zero s p e = let z : ◌≡◌ {A = ℕ} 0 1 = cc in absurd (omega arith)
@@ -73,16 +72,16 @@ abbrev Says : ℕ → ℕ → ℕ → List ℕ → ℕ → ℕ → Type 0
 Says at r o bs h n = judged at r o (walked bs).steps (front (walked bs).rest) ≡ refuses (cond (eqb h n) 13 11) (at + h)
 
 -- inside the first record, or before it
-in-first : (s : Step) (ss : List Step) (at r o p n : ℕ) → nest r o s ≡ Open p → n < length (record_of s) → Says at r o (take n (record_of s ++ bytes ss)) 0 n
+in-first : (s : Step) (ss : List Step) (at r o p n : ℕ) → nest r o s ≡ Some p → n < length (record_of s) → Says at r o (take n (record_of s ++ bytes ss)) 0 n
 unfolding judged walked_in front
 in-first s ss at r o p zero e l = not-ended at r o s p e ∙ rw (add-zero at)
 in-first s ss at r o p (suc n) e l =
     let t : take (suc n) (record_of s ++ bytes ss) ≡ take (suc n) (record_of s) = take-append-le (suc n) (record_of s) (bytes ss) (omega arith) in
     let f = cut-front s (suc n) (omega arith) l in
-    rw (t, stops (length (take (suc n) (record_of s))) (take (suc n) (record_of s)) F.Cut f (λ q g. let z : ◌≡◌ {A = ℕ} 0 1 = cc in omega arith), f, ne_eqb 0 (suc n) (λ z. omega arith), add-zero at)
+    rw (t, stops (length (take (suc n) (record_of s))) (take (suc n) (record_of s)) (Err F.Cut) f (λ q g. let z : ◌≡◌ {A = ℕ} 0 1 = cc in omega arith), f, ne_eqb 0 (suc n) (λ z. omega arith), add-zero at)
 
 -- past the first record
-past_first : (s : Step) (ss : List Step) (at r o p k : ℕ) → Sounds (s ∷ []) → nest r o s ≡ Open p
+past_first : (s : Step) (ss : List Step) (at r o p k : ℕ) → Sounds (s ∷ []) → nest r o s ≡ Some p
     → Says (at + length (record_of s)) (suc r) p (take k (bytes ss)) (holds ss k) k
     → Says at r o (take (length (record_of s) + k) (record_of s ++ bytes ss)) (length (record_of s) + holds ss k) (length (record_of s) + k)
 unfolding judged

@@ -6,21 +6,20 @@ use mathlib.Core.Path.{◌≡◌, refl, sym, ap, ◌∙◌}
 use mathlib.Core.Bool.{true, false}
 use mathlib.Core.List.{List, [], ◌∷◌, ◌++◌}
 use lib.ListN.{length, take, length-append}
+use Rattle.std.specs.Prelude.{Option, Some, None}
 use Rattle.records.specs.declared.Step.{Step}
 use Rattle.records.specs.declared.Step.TheVariants.{Enter, Leave, Token, Error, Expected}
 use Rattle.records.specs.Record.{record_of, bytes}
-use Rattle.stepfile.specs.declared.Found.{Found}
-use Rattle.stepfile.specs.declared.Nodes.{Nodes}
-use Rattle.stepfile.specs.declared.Nodes.TheVariants.{Open, Fault}
+use Rattle.stepfile.specs.Front.{Found}
 use Rattle.stepfile.specs.Answer.{refuses}
 use Rattle.stepfile.specs.Nesting.{after, nest, on_nodes, nests}
 use Rattle.stepfile.specs.OneByOne.{judged}
 use Rattle.stepfile.specs.Good.{enters, leaves}
 
 -- the nodes open past some steps
-pub depth : ℕ → ℕ → List Step → Nodes
-depth r o [] = Open o
-depth r o (s ∷ ss) = on_nodes (nest r o s) (λ p. depth (suc r) p ss) Fault
+pub depth : ℕ → ℕ → List Step → Option ℕ
+depth r o [] = Some o
+depth r o (s ∷ ss) = on_nodes (nest r o s) (λ p. depth (suc r) p ss) None
 
 -- what one step enters and leaves
 abbrev enter : Step → ℕ
@@ -60,7 +59,7 @@ leaves-append (s ∷ ss) ts = omega (arith, leaves-cons s (ss ++ ts), leaves-con
 -- a step passes where it leaves no node that is not open
 pub record Passes (o : ℕ) (s : Step) : Type 0 where
   pub past : ℕ
-  pub opens : after o s ≡ Open past
+  pub opens : after o s ≡ Some past
   pub count : past + leave s ≡ o + enter s
 
 passes : (o : ℕ) (s : Step) → leave s ≤ o + enter s → Passes o s
@@ -72,13 +71,13 @@ passes o (Token k n) h = record { past = o; opens = refl; count = omega arith }
 passes o (Error c x) h = record { past = o; opens = refl; count = omega arith }
 passes o (Expected k f) h = record { past = o; opens = refl; count = omega arith }
 
-same-open : (m p : ℕ) → Open m ≡ Open p → m ≡ p
+same-open : (m p : ℕ) → Some m ≡ Some p → m ≡ p
 same-open m p e = cc
 
-not-open : (p : ℕ) → Fault ≡ Open p → ⊥
+not-open : (p : ℕ) → None ≡ Some p → ⊥
 not-open p e = let z : ◌≡◌ {A = ℕ} 0 1 = cc in omega arith
 
-counted : (o : ℕ) (s : Step) (p : ℕ) → after o s ≡ Open p → p + leave s ≡ o + enter s
+counted : (o : ℕ) (s : Step) (p : ℕ) → after o s ≡ Some p → p + leave s ≡ o + enter s
 unfolding enters leaves
 counted o (Enter k) p e = omega (arith, same-open (suc o) p e)
 counted zero Leave p e = absurd (not-open p e)
@@ -94,7 +93,7 @@ begins-after zero o s h = refl
 begins-after (suc r) zero s h = absurd (omega (arith, h (omega arith)))
 begins-after (suc r) (suc o) s h = refl
 
-begun : (r o : ℕ) (s : Step) (p : ℕ) → nest r o s ≡ Open p → (0 < r → 0 < o) × (after o s ≡ Open p)
+begun : (r o : ℕ) (s : Step) (p : ℕ) → nest r o s ≡ Some p → (0 < r → 0 < o) × (after o s ≡ Some p)
 unfolding nest
 begun zero o s p e = (λ h. omega arith, e)
 begun (suc r) zero s p e = absurd (not-open p e)
@@ -109,7 +108,7 @@ pub record Proceeds (r o : ℕ) (ss : List Step) : Type 0 where
 
 pub record Reaches (r o : ℕ) (ss : List Step) : Type 0 where
   pub past : ℕ
-  pub opens : depth r o ss ≡ Open past
+  pub opens : depth r o ss ≡ Some past
   pub count : past + leaves ss ≡ o + enters ss
 
 -- the first of them, and the others from there
@@ -125,14 +124,14 @@ unfolding depth enters leaves
 proceeds-reaches [] r o h = record { past = o; opens = refl; count = omega arith }
 proceeds-reaches (s ∷ ss) r o h =
     let q = passes o s (h.never 1 (omega arith)) in
-    let e : nest r o s ≡ Open q.past = begins-after r o s (λ z. omega (arith, h.begins 0 (omega arith) (omega arith))) ∙ q.opens in
+    let e : nest r o s ≡ Some q.past = begins-after r o s (λ z. omega (arith, h.begins 0 (omega arith) (omega arith))) ∙ q.opens in
     let t = proceeds-reaches ss (suc r) q.past (proceeds-on r o s ss q.past q.count h) in
     record { past = t.past; opens = rw e t.opens; count = omega (arith, t.count, q.count, leaves-cons s ss, enters-cons s ss) }
 
 -- and back: steps that come to a depth proceed to it
-on-open : {A : Type 0} (m : Nodes) (g : ℕ → Nodes) (d : ℕ) → on_nodes m g Fault ≡ Open d → ((p : ℕ) → m ≡ Open p → g p ≡ Open d → A) → A
-on-open (Open p) g d e k = k p refl e
-on-open Fault g d e k = absurd (not-open d e)
+on-open : {A : Type 0} (m : Option ℕ) (g : ℕ → Option ℕ) (d : ℕ) → on_nodes m g None ≡ Some d → ((p : ℕ) → m ≡ Some p → g p ≡ Some d → A) → A
+on-open (Some p) g d e k = k p refl e
+on-open None g d e k = absurd (not-open d e)
 
 proceeds-cons : (r o : ℕ) (s : Step) (ss : List Step) (p : ℕ) → (0 < r → 0 < o) → p + leave s ≡ o + enter s → Proceeds (suc r) p ss → Proceeds r o (s ∷ ss)
 unfolding enters leaves
@@ -146,7 +145,7 @@ proceeds-cons r o s ss p b c h = record { begins = begins; never = never }
     never zero l = omega arith
     never (suc i) l = omega (arith, h.never i (omega arith), leaves-cons s (take i ss), enters-cons s (take i ss))
 
-pub reaches-proceeds : (ss : List Step) (r o d : ℕ) → depth r o ss ≡ Open d → Proceeds r o ss × (d + leaves ss ≡ o + enters ss)
+pub reaches-proceeds : (ss : List Step) (r o d : ℕ) → depth r o ss ≡ Some d → Proceeds r o ss × (d + leaves ss ≡ o + enters ss)
 unfolding depth enters leaves
 reaches-proceeds [] r o d e = (record { begins = λ i z l. absurd (omega arith); never = none }, omega (arith, same-open o d e))
   where
@@ -164,7 +163,7 @@ reaches-proceeds (s ∷ ss) r o d e =
 -- ---- what a walk over steps says
 
 -- past steps that come to a depth it says what it says from there
-pub judged-past : (ss ts : List Step) (at r o d : ℕ) (f : Found) → depth r o ss ≡ Open d
+pub judged-past : (ss ts : List Step) (at r o d : ℕ) (f : Found) → depth r o ss ≡ Some d
     → judged at r o (ss ++ ts) f ≡ judged (at + length (bytes ss)) (r + length ss) d ts f
 unfolding depth judged bytes
 judged-past [] ts at r o d f e = rw (same-open o d e, add-zero at, add-zero r)
@@ -177,8 +176,8 @@ judged-past (s ∷ ss) ts at r o d f e =
 
 -- It ends where the steps do, at a depth; or at a step that breaks the nesting, past others that come to a depth.
 pub data Ends (at r o : ℕ) (ss : List Step) (f : Found) : Type 0 where
-  over : (d : ℕ) → depth r o ss ≡ Open d → judged at r o ss f ≡ judged (at + length (bytes ss)) (r + length ss) d [] f → Ends at r o ss f
-  broke : (us : List Step) (s : Step) (ts : List Step) (d : ℕ) → ss ≡ us ++ s ∷ ts → depth r o us ≡ Open d → nest (r + length us) d s ≡ Fault
+  over : (d : ℕ) → depth r o ss ≡ Some d → judged at r o ss f ≡ judged (at + length (bytes ss)) (r + length ss) d [] f → Ends at r o ss f
+  broke : (us : List Step) (s : Step) (ts : List Step) (d : ℕ) → ss ≡ us ++ s ∷ ts → depth r o us ≡ Some d → nest (r + length us) d s ≡ None
       → judged at r o ss f ≡ refuses 13 (at + length (bytes us)) → Ends at r o ss f
 
 pub ends : (ss : List Step) (at r o : ℕ) (f : Found) → Ends at r o ss f
@@ -186,7 +185,7 @@ unfolding depth judged bytes
 ends [] at r o f = over o refl (rw (add-zero at, add-zero r))
 ends (s ∷ ss) at r o f = on (λ p. ends ss (at + length (record_of s)) (suc r) p f) (nest r o s) refl
   where
-    further : (p : ℕ) → nest r o s ≡ Open p → Ends (at + length (record_of s)) (suc r) p ss f → Ends at r o (s ∷ ss) f
+    further : (p : ℕ) → nest r o s ≡ Some p → Ends (at + length (record_of s)) (suc r) p ss f → Ends at r o (s ∷ ss) f
     further p q (over d e j) =
         let a : at + length (record_of s ++ bytes ss) ≡ at + length (record_of s) + length (bytes ss) = omega (arith, length-append (record_of s) (bytes ss)) in
         let b : r + suc (length ss) ≡ suc r + length ss = omega arith in
@@ -196,16 +195,16 @@ ends (s ∷ ss) at r o f = on (λ p. ends ss (at + length (record_of s)) (suc r)
         let b : r + suc (length us) ≡ suc r + length us = omega arith in
         broke (s ∷ us) t ts d (ap (λ (l : List Step). s ∷ l) g) (rw q e) (rw b n) (rw (q, a) j)
 
-    on : ((p : ℕ) → Ends (at + length (record_of s)) (suc r) p ss f) → (m : Nodes) → nest r o s ≡ m → Ends at r o (s ∷ ss) f
-    on rest (Open p) q = further p q (rest p)
-    on rest Fault q = broke [] s ss o refl refl (rw (add-zero r) q) (rw (q, add-zero at))
+    on : ((p : ℕ) → Ends (at + length (record_of s)) (suc r) p ss f) → (m : Option ℕ) → nest r o s ≡ m → Ends at r o (s ∷ ss) f
+    on rest (Some p) q = further p q (rest p)
+    on rest None q = broke [] s ss o refl refl (rw (add-zero r) q) (rw (q, add-zero at))
 
 -- a step that breaks the nesting begins at depth zero and is not the first, or takes the depth below zero
 pub data Why (r o : ℕ) (s : Step) : Type 0 where
   late : 0 < r → o ≡ 0 → Why r o s
   low : o + enter s < leave s → Why r o s
 
-pub why : (r o : ℕ) (s : Step) → nest r o s ≡ Fault → Why r o s
+pub why : (r o : ℕ) (s : Step) → nest r o s ≡ None → Why r o s
 unfolding nest enters leaves
 why (suc r) zero s e = late (omega arith) refl
 why zero o (Enter k) e = absurd (not-open _ (sym e))
@@ -220,12 +219,12 @@ why (suc r) (suc o) (Token k n) e = absurd (not-open _ (sym e))
 why (suc r) (suc o) (Error c x) e = absurd (not-open _ (sym e))
 why (suc r) (suc o) (Expected k f) e = absurd (not-open _ (sym e))
 
-pub breaks-again : (r : ℕ) (s : Step) → 0 < r → nest r 0 s ≡ Fault
+pub breaks-again : (r : ℕ) (s : Step) → 0 < r → nest r 0 s ≡ None
 unfolding nest
 breaks-again zero s h = absurd (omega arith)
 breaks-again (suc r) s h = refl
 
-pub breaks-below : (r o : ℕ) (s : Step) → o + enter s < leave s → nest r o s ≡ Fault
+pub breaks-below : (r o : ℕ) (s : Step) → o + enter s < leave s → nest r o s ≡ None
 unfolding nest enters leaves
 breaks-below zero o (Enter k) h = absurd (omega arith)
 breaks-below zero zero Leave h = refl
@@ -244,19 +243,19 @@ false-true : false ≡ true → ⊥
 false-true q = let z : ◌≡◌ {A = ℕ} 0 1 = cc in omega arith
 
 -- steps that nest come to depth zero, one of them at least; and back
-pub nests-depth : (ss : List Step) (r o : ℕ) → nests r o ss ≡ true → (depth r o ss ≡ Open 0) × (0 < r + length ss)
+pub nests-depth : (ss : List Step) (r o : ℕ) → nests r o ss ≡ true → (depth r o ss ≡ Some 0) × (0 < r + length ss)
 unfolding nests depth
 nests-depth [] zero o e = absurd (false-true e)
 nests-depth [] (suc r) zero e = (refl, omega arith)
 nests-depth [] (suc r) (suc o) e = absurd (false-true e)
 nests-depth (s ∷ ss) r o e = (on (λ p q. (nests-depth ss (suc r) p q).0) (nest r o s) e, omega arith)
   where
-    on : ((p : ℕ) → nests (suc r) p ss ≡ true → depth (suc r) p ss ≡ Open 0) → (m : Nodes) → on_nodes m (λ p. nests (suc r) p ss) false ≡ true
-        → on_nodes m (λ p. depth (suc r) p ss) Fault ≡ Open 0
-    on rest (Open p) q = rest p q
-    on rest Fault q = absurd (false-true q)
+    on : ((p : ℕ) → nests (suc r) p ss ≡ true → depth (suc r) p ss ≡ Some 0) → (m : Option ℕ) → on_nodes m (λ p. nests (suc r) p ss) false ≡ true
+        → on_nodes m (λ p. depth (suc r) p ss) None ≡ Some 0
+    on rest (Some p) q = rest p q
+    on rest None q = absurd (false-true q)
 
-pub depth-nests : (ss : List Step) (r o : ℕ) → depth r o ss ≡ Open 0 → 0 < r + length ss → nests r o ss ≡ true
+pub depth-nests : (ss : List Step) (r o : ℕ) → depth r o ss ≡ Some 0 → 0 < r + length ss → nests r o ss ≡ true
 unfolding nests depth
 depth-nests [] zero o e h = absurd (omega arith)
 depth-nests [] (suc r) zero e h = refl

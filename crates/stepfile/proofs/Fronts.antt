@@ -9,10 +9,11 @@ use lib.Dec.{eqb, ltb}
 use lib.ListN.{length, get_or, drop, length-drop, drop_of_length-le}
 use lib.Seq.{get_or-drop}
 use borrow.Author.Tests.{ne_eqb, lt-ltb, le-ltb, eqb-true, eqb-false, ltb-false}
+use Rattle.std.specs.Prelude.{Some, None, Ok, Err}
 use Rattle.records.specs.declared.Step.TheVariants.{Enter, Leave, Token, Error, Expected}
 use Rattle.laws.proofs.Tests.{by-test}
-use Rattle.stepfile.specs.declared.Found.{Found}
-use Rattle.stepfile.specs.declared.Found.TheVariants.{Sound, End, Cut, Unsound}
+use Rattle.stepfile.specs.Front.{Found}
+use Rattle.stepfile.specs.declared.Fault.TheVariants.{Cut, Unsound}
 use Rattle.stepfile.specs.Front.{two, step_of, front}
 use Rattle.stepfile.specs.Inside.{Head}
 
@@ -25,29 +26,25 @@ two-front l at = two-drop l at 0 ∙ rw add-zero
 -- ---- a whole record, by its kind and its payload's length
 
 module _ (bs : List ℕ) where
-  pub a_leave : step_of 2 0 bs ≡ Sound Leave
-  unfolding step_of
-  a_leave = refl
-
-  pub a-token : (n : ℕ) → n ≡ get_or bs 6 0 → (n ≡ 0 → ⊥) → n ≤ 3 → step_of 3 3 bs ≡ Sound (Token (two bs 4) n)
+  pub a-token : (n : ℕ) → n ≡ get_or bs 6 0 → (n ≡ 0 → ⊥) → n ≤ 3 → step_of 3 3 bs ≡ Ok (Some (Token (two bs 4) n))
   unfolding step_of
   a-token n e z h = rw (← e, ne_eqb n 0 z, le-ltb 3 n h)
 
   -- a raw count of 0, and one above 3
-  pub no-count : get_or bs 6 0 ≡ 0 → step_of 3 3 bs ≡ Unsound
+  pub no-count : get_or bs 6 0 ≡ 0 → step_of 3 3 bs ≡ Err Unsound
   unfolding step_of
   no-count e = rw e
 
-  pub high-count : 3 < get_or bs 6 0 → step_of 3 3 bs ≡ Unsound
+  pub high-count : 3 < get_or bs 6 0 → step_of 3 3 bs ≡ Err Unsound
   unfolding step_of
   high-count h = rw (ne_eqb (get_or bs 6 0) 0 (λ z. omega arith), lt-ltb 3 (get_or bs 6 0) h)
 
-  pub an-expected : two bs 4 ≡ 1 → step_of 5 6 bs ≡ Sound (Expected (two bs 6) (two bs 8))
+  pub an-expected : two bs 4 ≡ 1 → step_of 5 6 bs ≡ Ok (Some (Expected (two bs 6) (two bs 8)))
   unfolding step_of
   an-expected e = rw e
 
   -- another code than 1
-  pub other-code : (two bs 4 ≡ 1 → ⊥) → step_of 5 6 bs ≡ Unsound
+  pub other-code : (two bs 4 ≡ 1 → ⊥) → step_of 5 6 bs ≡ Err Unsound
   unfolding step_of
   other-code n = rw (ne_eqb (two bs 4) 1 n)
 
@@ -55,7 +52,7 @@ module _ (bs : List ℕ) where
   pub no_record : (kind size : ℕ) → (kind ≡ 1 → size ≡ 2 → ⊥) → (kind ≡ 2 → size ≡ 0 → ⊥)
       → (kind ≡ 3 → size ≡ 3 → 0 < get_or bs 6 0 → get_or bs 6 0 ≤ 3 → ⊥) → (kind ≡ 4 → size ≡ 4 → ⊥)
       → (kind ≡ 5 → size ≡ 6 → two bs 4 ≡ 1 → ⊥)
-      → step_of kind size bs ≡ Unsound
+      → step_of kind size bs ≡ Err Unsound
   unfolding step_of
   no_record kind size a b c d g =
       by-test Is (eqb kind 1) _ _ (λ k. other 2 _ (a (eqb-true kind 1 k))) (λ _.
@@ -75,23 +72,23 @@ module _ (bs : List ℕ) where
       n = get_or bs 6 0
 
       Is : Found → Type 0
-      Is f = f ≡ Unsound
+      Is f = f ≡ Err Unsound
 
-      other : (m : ℕ) (f : Found) → (size ≡ m → ⊥) → cond (eqb size m) f Unsound ≡ Unsound
+      other : (m : ℕ) (f : Found) → (size ≡ m → ⊥) → cond (eqb size m) f (Err Unsound) ≡ Err Unsound
       other m f z = rw (ne_eqb size m z)
 
 -- ---- the record at a place, by its head
 
 -- a token by its raw count
-pub token-counted : (l : List ℕ) (at k n : ℕ) → k ≡ two l (at + 4) → n ≡ get_or l (at + 6) 0 → (n ≡ 0 → ⊥) → n ≤ 3 → Sound (Token k n) ≡ step_of 3 3 (drop at l)
+pub token-counted : (l : List ℕ) (at k n : ℕ) → k ≡ two l (at + 4) → n ≡ get_or l (at + 6) 0 → (n ≡ 0 → ⊥) → n ≤ 3 → Ok (Some (Token k n)) ≡ step_of 3 3 (drop at l)
 token-counted l at k n e q z h = rw (e, ← two-drop l at 4) (sym (a-token (drop at l) n (q ∙ sym (get_or-drop at l 6 0)) z h))
 
 -- an error with what was found by its code
 module _ (l : List ℕ) (at : ℕ) where
-  pub expected-coded : (k f : ℕ) → two l (at + 4) ≡ 1 → k ≡ two l (at + 6) → f ≡ two l (at + 8) → Sound (Expected k f) ≡ step_of 5 6 (drop at l)
+  pub expected-coded : (k f : ℕ) → two l (at + 4) ≡ 1 → k ≡ two l (at + 6) → f ≡ two l (at + 8) → Ok (Some (Expected k f)) ≡ step_of 5 6 (drop at l)
   expected-coded k f o e q = rw (e, q, ← two-drop l at 6, ← two-drop l at 8) (sym (an-expected (drop at l) (two-drop l at 4 ∙ o)))
 
-  pub expected-other : (two l (at + 4) ≡ 1 → ⊥) → Unsound ≡ step_of 5 6 (drop at l)
+  pub expected-other : (two l (at + 4) ≡ 1 → ⊥) → Err Unsound ≡ step_of 5 6 (drop at l)
   expected-other n = sym (other-code (drop at l) (λ o. n (sym (two-drop l at 4) ∙ o)))
 
 module _ (l : List ℕ) (at head : ℕ) (is : Head l at head) where
@@ -101,25 +98,19 @@ module _ (l : List ℕ) (at head : ℕ) (is : Head l at head) where
   of : (k s : ℕ) (f : Found) → head / 65536 ≡ k → head % 65536 ≡ s → f ≡ step_of k s (drop at l) → Is f
   of k s f a b e = rw (is.kind, is.size, a, b) e
 
-  pub enter-at : (k : ℕ) → head ≡ 65538 → k ≡ two l (at + 4) → Is (Sound (Enter k))
+  pub enter-at : (k : ℕ) → head ≡ 65538 → k ≡ two l (at + 4) → Is (Ok (Some (Enter k)))
   unfolding step_of
   enter-at k h e = of 1 2 _ (rw h) (rw h) (rw (e, ← two-drop l at 4))
 
-  pub leave-at : head ≡ 131072 → Is (Sound Leave)
+  pub leave-at : head ≡ 131072 → Is (Ok (Some Leave))
   unfolding step_of
   leave-at h = of 2 0 _ (rw h) (rw h) refl
 
-  pub token-at : (f : Found) → head ≡ 196611 → f ≡ step_of 3 3 (drop at l) → Is f
-  token-at f h e = of 3 3 f (rw h) (rw h) e
-
-  pub error-at : (c x : ℕ) → head ≡ 262148 → c ≡ two l (at + 4) → x ≡ two l (at + 6) → Is (Sound (Error c x))
+  pub error-at : (c x : ℕ) → head ≡ 262148 → c ≡ two l (at + 4) → x ≡ two l (at + 6) → Is (Ok (Some (Error c x)))
   unfolding step_of
   error-at c x h e f = of 4 4 _ (rw h) (rw h) (rw (e, f, ← two-drop l at 4, ← two-drop l at 6))
 
-  pub expected-at : (f : Found) → head ≡ 327686 → f ≡ step_of 5 6 (drop at l) → Is f
-  expected-at f h e = of 5 6 f (rw h) (rw h) e
-
-  pub none-at : (head ≡ 65538 → ⊥) → (head ≡ 131072 → ⊥) → (head ≡ 196611 → ⊥) → (head ≡ 262148 → ⊥) → (head ≡ 327686 → ⊥) → Is Unsound
+  pub none-at : (head ≡ 65538 → ⊥) → (head ≡ 131072 → ⊥) → (head ≡ 196611 → ⊥) → (head ≡ 262148 → ⊥) → (head ≡ 327686 → ⊥) → Is (Err Unsound)
   none-at a b c d g =
       sym
       (no_record (drop at l) (two l (at + 2)) (two l at)
@@ -131,7 +122,7 @@ module _ (l : List ℕ) (at head : ℕ) (is : Head l at head) where
 
 -- ---- the front of what is left at a place
 
-pub at-end : (l : List ℕ) (at : ℕ) → length l ≤ at → front (drop at l) ≡ End
+pub at-end : (l : List ℕ) (at : ℕ) → length l ≤ at → front (drop at l) ≡ Ok None
 unfolding front
 at-end l at h = rw (drop_of_length-le l h)
 
@@ -139,7 +130,7 @@ module _ (l : List ℕ) (at : ℕ) (h : at < length l) where
   some_left : eqb (length (drop at l)) 0 ≡ false
   some_left = ne_eqb (length (drop at l)) 0 (λ z. omega (arith, length-drop at l))
 
-  pub at_cut : length l - at < 4 + two l at → front (drop at l) ≡ Cut
+  pub at_cut : length l - at < 4 + two l at → front (drop at l) ≡ Err Cut
   unfolding front
   at_cut g = rw (some_left, two-front l at, lt-ltb (length (drop at l)) (4 + two l at) (rw length-drop g))
 

@@ -1,19 +1,15 @@
 -- The nodes open past a record, and the end of a walk, by what the code tests. Assumes nothing.
-use Prim.Native.Nat.{ℕ, zero, suc, ◌-◌, ◌≤◌, ◌<◌}
+use Prim.Native.Nat.{ℕ, zero, suc, ◌≤◌, ◌<◌}
 use native.Mathlib.Omega.{arith}
-use mathlib.Core.Path.{◌≡◌, refl, ap}
+use mathlib.Core.Path.{◌≡◌, refl}
+use Rattle.std.specs.Prelude.{Some, None}
 use Rattle.records.specs.declared.Step.{Step}
 use Rattle.records.specs.declared.Step.TheVariants.{Enter, Leave, Token, Error, Expected}
-use Rattle.stepfile.specs.declared.Nodes.TheVariants.{Open, Fault}
 use Rattle.stepfile.specs.Answer.{says, refuses}
 use Rattle.stepfile.specs.Nesting.{after, nest}
 use Rattle.stepfile.specs.File.{ended}
 
--- a leave where a node is open, and any step past one
-pub left_open : (o : ℕ) → (o ≡ 0 → ⊥) → Open (o - 1) ≡ after o Leave
-left_open zero n = absurd (n refl)
-left_open (suc o) n = let e : suc o - 1 ≡ o = omega arith in ap Open e
-
+-- any step past a node that is open
 pub nest-inside : (r o : ℕ) (s : Step) → (o ≡ 0 → ⊥) → nest r o s ≡ after o s
 unfolding nest
 nest-inside zero o s n = refl
@@ -25,23 +21,23 @@ pub nest-first : (r o : ℕ) (s : Step) → r ≡ 0 → nest r o s ≡ after o s
 unfolding nest
 nest-first r o s e = rw e
 
-pub nest-closed : (r o : ℕ) (s : Step) → o ≡ 0 → (r ≡ 0 → ⊥) → nest r o s ≡ Fault
+pub nest-closed : (r o : ℕ) (s : Step) → o ≡ 0 → (r ≡ 0 → ⊥) → nest r o s ≡ None
 unfolding nest
 nest-closed zero o s e n = absurd (n refl)
 nest-closed (suc r) o s e n = rw e
 
 -- a record opens one node at most
-pub opens_one : (r o : ℕ) (s : Step) (p : ℕ) → nest r o s ≡ Open p → p ≤ suc o
+pub opens_one : (r o : ℕ) (s : Step) (p : ℕ) → nest r o s ≡ Some p → p ≤ suc o
 unfolding nest
 opens_one r o s = on r o s
   where
-    same : (m p : ℕ) → Open m ≡ Open p → m ≡ p
+    same : (m p : ℕ) → Some m ≡ Some p → m ≡ p
     same m p e = cc
 
-    never : (p : ℕ) → Fault ≡ Open p → ⊥
+    never : (p : ℕ) → None ≡ Some p → ⊥
     never p e = let z : ◌≡◌ {A = ℕ} 0 1 = cc in omega arith
 
-    by : (o : ℕ) (s : Step) (p : ℕ) → after o s ≡ Open p → p ≤ suc o
+    by : (o : ℕ) (s : Step) (p : ℕ) → after o s ≡ Some p → p ≤ suc o
     by o (Enter k) p e = omega (arith, same (suc o) p e)
     by zero Leave p e = absurd (never p e)
     by (suc o) Leave p e = omega (arith, same o p e)
@@ -49,7 +45,7 @@ opens_one r o s = on r o s
     by o (Error c x) p e = omega (arith, same o p e)
     by o (Expected k f) p e = omega (arith, same o p e)
 
-    on : (r o : ℕ) (s : Step) (p : ℕ) → nest r o s ≡ Open p → p ≤ suc o
+    on : (r o : ℕ) (s : Step) (p : ℕ) → nest r o s ≡ Some p → p ≤ suc o
     on zero o s p e = by o s p e
     on (suc r) zero s p e = absurd (never p e)
     on (suc r) (suc o) s p e = by (suc o) s p e

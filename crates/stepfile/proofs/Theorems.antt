@@ -7,13 +7,14 @@ use mathlib.Core.List.{List, [], ◌∷◌, ◌++◌}
 use lib.Dec.{eqb}
 use lib.ListN.{length, take, length-append}
 use lib.Seq.{take-append_seam, drop-append_seam}
+use Rattle.std.specs.Prelude.{Some, Ok, Err, Result}
 use Rattle.records.specs.declared.Step.{Step}
 use Rattle.records.specs.Record.{record_of, bytes, Sound as SoundStep, Sounds}
-use Rattle.stepfile.specs.declared.Found.{Found}
-use Rattle.stepfile.specs.declared.Found.TheVariants as F
-use Rattle.stepfile.specs.declared.Answer.{Answer}
-use Rattle.stepfile.specs.declared.Answer.TheVariants as A
-use Rattle.stepfile.specs.declared.Nodes.TheVariants.{Open}
+use Rattle.stepfile.specs.Front.{Found}
+use Rattle.stepfile.specs.declared.Fault.TheVariants as F
+use Rattle.stepfile.specs.declared.Counts.{Counts}
+use Rattle.stepfile.specs.declared.Refusal.{Refusal}
+use Rattle.stepfile.specs.declared.Refusal.TheVariants as R
 use Rattle.stepfile.specs.Front.{two, front, behind}
 use Rattle.stepfile.specs.Answer.{Numbers, says, refuses, numbers}
 use Rattle.stepfile.specs.Nesting.{nests}
@@ -30,17 +31,19 @@ use Rattle.stepfile.proofs.Cuts.{cut-steps}
 -- ---- one answer
 
 -- two answers with the same number, place and records are the same, and so two answers that meet the contract of `read_file`
-answer-of : Numbers → Answer
-answer-of n = cond (eqb n.code 0) (A.Good n.place n.records) (cond (eqb n.code 11) (A.Cut n.place) (cond (eqb n.code 12) (A.Unsound n.place) (A.Unnested n.place)))
+answer-of : Numbers → Result Counts Refusal
+answer-of n =
+    cond (eqb n.code 0) (Ok (record { bytes = n.place; records = n.records }))
+    (cond (eqb n.code 11) (Err (R.Cut n.place)) (cond (eqb n.code 12) (Err (R.Unsound n.place)) (Err (R.Unnested n.place))))
 
-answered : (a : Answer) → answer-of (numbers a) ≡ a
+answered : (a : Result Counts Refusal) → answer-of (numbers a) ≡ a
 unfolding answer-of
-answered (A.Good p n) = refl
-answered (A.Cut p) = refl
-answered (A.Unsound p) = refl
-answered (A.Unnested p) = refl
+answered (Ok n) = refl
+answered (Err (R.Cut p)) = refl
+answered (Err (R.Unsound p)) = refl
+answered (Err (R.Unnested p)) = refl
 
-pub file-unique : (bs : List ℕ) (a b : Answer) → numbers a ≡ file_read bs → numbers b ≡ file_read bs → a ≡ b
+pub file-unique : (bs : List ℕ) (a b : Result Counts Refusal) → numbers a ≡ file_read bs → numbers b ≡ file_read bs → a ≡ b
 file-unique bs a b p q = sym (answered a) ∙ ap answer-of (p ∙ sym q) ∙ answered b
 
 -- two fronts and rests that meet the contract of `read_step` are the same
@@ -76,7 +79,7 @@ module _ (bs : List ℕ) (b : Bytes bs) where
   stands-front f (step s more d q) = rw q (read-record s more d)
   stands-front f (other h l n) =
       front-whole bs h l
-      ∙ either (λ g. front bs ≡ g → g ≡ F.Unsound) (two bs 2) (two bs 0) bs
+      ∙ either (λ g. front bs ≡ g → g ≡ Err F.Unsound) (two bs 2) (two bs 0) bs
       (λ s q. let r = record-there bs b s q in absurd (n s (behind bs) r.1 r.0))
       (λ q. refl)
       (front-whole bs h l)
@@ -84,13 +87,13 @@ module _ (bs : List ℕ) (b : Bytes bs) where
 -- ---- reading is the inverse of writing
 
 -- a record that is written, and anything behind it, reads as that step and that rest
-pub written-reads : (s : Step) (more : List ℕ) → SoundStep s → (front (record_of s ++ more) ≡ F.Sound s) × (behind (record_of s ++ more) ≡ more)
+pub written-reads : (s : Step) (more : List ℕ) → SoundStep s → (front (record_of s ++ more) ≡ Ok (Some s)) × (behind (record_of s ++ more) ≡ more)
 written-reads s more h =
     let e = read-record s more h in
     (e, behind-step (record_of s ++ more) s e ∙ drop-append_seam (record_of s) more)
 
 -- what reads as a step is its record, and the step is sound
-pub reads-written : (bs : List ℕ) (s : Step) → Bytes bs → front bs ≡ F.Sound s → (bs ≡ record_of s ++ behind bs) × SoundStep s
+pub reads-written : (bs : List ℕ) (s : Step) → Bytes bs → front bs ≡ Ok (Some s) → (bs ≡ record_of s ++ behind bs) × SoundStep s
 reads-written bs s b e = record-there bs b s e
 
 -- every file is the writing of the steps that it reads as, and what is left; so a file that is read to its end is the writing of its steps
@@ -135,7 +138,7 @@ done-nested ss h e =
     on : Ends 0 0 0 ss (front []) → (judged 0 0 0 ss (front [])).code ≡ 0 → nests 0 0 ss ≡ true
     on (over d q j) z =
         let c = ended-good (0 + length (bytes ss)) (0 + length ss) d (ap (λ (n : Numbers). n.code) (sym j) ∙ z) in
-        depth-nests ss 0 0 (q ∙ ap Open c.1) c.0
+        depth-nests ss 0 0 (q ∙ ap Some c.1) c.0
     on (broke us s ts d g q n j) z = absurd (omega (arith, ap (λ (n : Numbers). n.code) (sym j) ∙ z))
 
 -- ---- cuts

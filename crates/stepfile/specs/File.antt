@@ -1,9 +1,9 @@
 -- A whole step file, record by record (docs/RULES.md, sections 3 and 7): at each record 11, then 12, then 13.
-use Rattle.std.specs.Prelude.{ℕ, zero, suc, ◌+◌, List, length, drop}
+use Rattle.std.specs.Prelude.{ℕ, zero, suc, ◌+◌, List, length, drop, Some, None, Ok, Err}
 use Rattle.records.specs.declared.Step.{Step}
 use Rattle.records.specs.Record.{record_of}
-use Rattle.stepfile.specs.declared.Found.{Found}
-use Rattle.stepfile.specs.declared.Found.TheVariants.{Sound, End, Cut, Unsound}
+use Rattle.stepfile.specs.Front.{Found}
+use Rattle.stepfile.specs.declared.Fault.TheVariants.{Cut, Unsound}
 use Rattle.stepfile.specs.Front.{front}
 use Rattle.stepfile.specs.Answer.{Numbers, says, refuses}
 use Rattle.stepfile.specs.Nesting.{nest, on_nodes}
@@ -15,10 +15,10 @@ ended at (suc r) zero = says 0 at (suc r)
 ended at (suc r) (suc o) = refuses 13 at
 
 abbrev pub on_found : {A : Type 0} → Found → (Step → A) → A → A → A → A
-on_found (Sound s) go end cut unsound = go s
-on_found End go end cut unsound = end
-on_found Cut go end cut unsound = cut
-on_found Unsound go end cut unsound = unsound
+on_found (Ok (Some s)) go end cut unsound = go s
+on_found (Ok None) go end cut unsound = end
+on_found (Err Cut) go end cut unsound = cut
+on_found (Err Unsound) go end cut unsound = unsound
 
 -- What is left of a file, with its place, the records before it and the nodes open there. A round reads a record.
 unfoldable pub walk : ℕ → List ℕ → ℕ → ℕ → ℕ → Numbers

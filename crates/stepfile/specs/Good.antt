@@ -1,10 +1,10 @@
 -- What a good file is and when one is refused (docs/RULES.md, sections 3 and 7), in words of their own: nothing here reads a file.
-use Rattle.std.specs.Prelude.{ℕ, ◌+◌, ◌-◌, ◌≤◌, ◌<◌, ◌≡◌, cond, List, [], ◌∷◌, ◌++◌, ltb, length, get_or, take}
+use Rattle.std.specs.Prelude.{ℕ, ◌+◌, ◌-◌, ◌≤◌, ◌<◌, ◌≡◌, cond, List, [], ◌∷◌, ◌++◌, ltb, length, get_or, take, Some, None, Ok, Err}
 use Rattle.records.specs.declared.Step.{Step}
 use Rattle.records.specs.declared.Step.TheVariants.{Enter, Leave, Token, Error, Expected}
 use Rattle.records.specs.Record.{record_of, bytes, Sound, Sounds}
-use Rattle.stepfile.specs.declared.Found.{Found}
-use Rattle.stepfile.specs.declared.Found.TheVariants as F
+use Rattle.stepfile.specs.Front.{Found}
+use Rattle.stepfile.specs.declared.Fault.TheVariants as F
 use Rattle.stepfile.specs.Front.{two}
 use Rattle.stepfile.specs.Answer.{Numbers, says, refuses}
 
@@ -15,10 +15,10 @@ Bytes bs = (i : ℕ) → get_or bs i 0 < 256
 -- What stands at the front: nothing; fewer bytes than the four of a head and those that its length says; the record of a sound step; a whole
 -- record that is none of a sound step.
 pub data Stands (bs : List ℕ) : Found → Type 0 where
-  nothing : bs ≡ [] → Stands bs F.End
-  past : 0 < length bs → length bs < 4 + two bs 0 → Stands bs F.Cut
-  step : (s : Step) (more : List ℕ) → Sound s → bs ≡ record_of s ++ more → Stands bs (F.Sound s)
-  other : 0 < length bs → 4 + two bs 0 ≤ length bs → ((s : Step) (more : List ℕ) → Sound s → bs ≡ record_of s ++ more → ⊥) → Stands bs F.Unsound
+  nothing : bs ≡ [] → Stands bs (Ok None)
+  past : 0 < length bs → length bs < 4 + two bs 0 → Stands bs (Err F.Cut)
+  step : (s : Step) (more : List ℕ) → Sound s → bs ≡ record_of s ++ more → Stands bs (Ok (Some s))
+  other : 0 < length bs → 4 + two bs 0 ≤ length bs → ((s : Step) (more : List ℕ) → Sound s → bs ≡ record_of s ++ more → ⊥) → Stands bs (Err F.Unsound)
 
 -- how many nodes some steps enter, and how many they leave: the depth is what the first has above the second
 unfoldable pub enters : List Step → ℕ

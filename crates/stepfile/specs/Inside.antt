@@ -1,13 +1,12 @@
 -- What the contracts of the code inside cite.
-use Rattle.std.specs.Prelude.{ℕ, suc, ◌+◌, ◌/◌, ◌%◌, ◌≤◌, ◌<◌, ◌≡◌, List, length, drop}
+use Rattle.std.specs.Prelude.{ℕ, suc, ◌+◌, ◌/◌, ◌%◌, ◌≤◌, ◌<◌, ◌≡◌, List, length, drop, Result, Ok, Err}
 use Rattle.records.specs.declared.Step.{Step}
 use Rattle.records.specs.Record.{record_of}
-use Rattle.stepfile.specs.declared.Answer.TheVariants.{Unnested}
+use Rattle.stepfile.specs.declared.Refusal.{Refusal}
+use Rattle.stepfile.specs.declared.Refusal.TheVariants.{Unnested}
 use Rattle.stepfile.specs.declared.Walk.{Walk}
-use Rattle.stepfile.specs.declared.Turn.{Turn}
-use Rattle.stepfile.specs.declared.Turn.TheVariants.{On, Ends}
 use Rattle.stepfile.specs.Front.{two}
-use Rattle.stepfile.specs.Answer.{Numbers, numbers}
+use Rattle.stepfile.specs.Answer.{Numbers, refused}
 use Rattle.stepfile.specs.Nesting.{nest, on_nodes}
 use Rattle.stepfile.specs.File.{walk}
 
@@ -22,18 +21,18 @@ pub record Fits (bs : List ℕ) (w : Walk) : Type 0 where
   pub records : w.records ≤ w.at
   pub held : w.held ≤ w.records
 
--- a walk past a step
-unfoldable pub passed : Walk → Step → Turn
+-- a walk past a step, or a refusal where the step breaks the nesting
+unfoldable pub passed : Walk → Step → Result Walk Refusal
 passed w s =
     on_nodes (nest w.records w.held s)
-    (λ n. On (record { at = w.at + length (record_of s); records = w.records + 1; held = n }))
-    (Ends (Unnested w.at))
+    (λ n. Ok (record { at = w.at + length (record_of s); records = w.records + 1; held = n }))
+    (Err (Unnested w.at))
 
 -- what is left of a file at a walk
 abbrev pub from : ℕ → List ℕ → Walk → Numbers
 from n bs w = walk n (drop w.at bs) w.at w.records w.held
 
--- a turn is a round of the definition; where the walk goes on it is further on
-abbrev pub Turned : List ℕ → Walk → Turn → Type 0
-Turned bs w (On v) = (Fits bs v) × (w.at < v.at) × ((n : ℕ) → from (suc n) bs w ≡ from n bs v)
-Turned bs w (Ends a) = (n : ℕ) → from (suc n) bs w ≡ numbers a
+-- what a step makes of a walk is a round of the definition; where the walk goes on it is further on
+abbrev pub Turned : List ℕ → Walk → Result Walk Refusal → Type 0
+Turned bs w (Ok v) = (Fits bs v) × (w.at < v.at) × ((n : ℕ) → from (suc n) bs w ≡ from n bs v)
+Turned bs w (Err e) = (n : ℕ) → from (suc n) bs w ≡ refused e

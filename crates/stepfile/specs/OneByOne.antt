@@ -2,8 +2,7 @@
 use Rattle.std.specs.Prelude.{ℕ, zero, suc, ◌+◌, List, [], ◌∷◌, length}
 use Rattle.records.specs.declared.Step.{Step}
 use Rattle.records.specs.Record.{record_of}
-use Rattle.stepfile.specs.declared.Found.{Found}
-use Rattle.stepfile.specs.Front.{front, behind}
+use Rattle.stepfile.specs.Front.{Found, front, behind}
 use Rattle.stepfile.specs.Answer.{Numbers, refuses}
 use Rattle.stepfile.specs.Nesting.{nest, on_nodes}
 use Rattle.stepfile.specs.File.{ended, on_found}

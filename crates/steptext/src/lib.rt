@@ -4,83 +4,53 @@
 use records::{Step, size};
 use std::io;
 use std::io::Write;
-use stepfile::{Found, step_at};
-use text::put;
-use tokens::table::{put_expected, put_found};
+use stepfile::step_at;
+use tokens::table::Said;
 
-fn put_end<W: Write>(out: &mut W) -> io::Result<()> {
-    out.write_all(b"\n")
-}
-
-// What the message of code 1 says, behind its numbers.
-fn put_words<W: Write>(out: &mut W, kind: u64) -> io::Result<()> {
-    out.write_all(b": ")?;
-    put_expected(out, kind)
-}
-
-// The line of an error, with the words of code 1 where they are asked for.
-fn put_error<W: Write>(out: &mut W, code: u64, argument: u64, worded: bool) -> io::Result<()> {
-    put(out, b"error % %", &[code, argument])?;
-    if worded {
-        if code == 1 {
-            put_words(out, argument)?;
-        }
-    }
-    put_end(out)
-}
-
-// The same of one that says what was found.
-fn put_lacking<W: Write>(out: &mut W, kind: u64, found: u64, worded: bool) -> io::Result<()> {
-    put(out, b"error 1 % %", &[kind, found])?;
-    if worded {
-        put_words(out, kind)?;
-        put_found(out, found)?;
-    }
-    put_end(out)
-}
-
-// A step's line.
+// A step's line, with the words of an error where they are asked for.
 fn put_step<W: Write>(out: &mut W, s: Step, worded: bool) -> io::Result<()> {
     match s {
-        Step::Enter(kind) => put(out, b"enter %\n", &[kind as u64]),
-        Step::Leave => out.write_all(b"leave\n"),
-        Step::Token(kind, count) => put(out, b"token % %\n", &[kind as u64, count as u64]),
-        Step::Error(code, argument) => put_error(out, code as u64, argument as u64, worded),
-        Step::Expected(kind, found) => put_lacking(out, kind as u64, found as u64, worded),
+        Step::Enter(kind) => writeln!(out, "enter {kind}"),
+        Step::Leave => writeln!(out, "leave"),
+        Step::Token(kind, count) => writeln!(out, "token {kind} {count}"),
+        Step::Error(code, argument) => {
+            write!(out, "error {code} {argument}")?;
+            if worded && code == 1 {
+                write!(out, ": {}", Said::Expected(argument.into()))?;
+            }
+            writeln!(out)
+        }
+        Step::Expected(kind, found) => {
+            write!(out, "error 1 {kind} {found}")?;
+            if worded {
+                let expected = Said::Expected(kind.into());
+                write!(out, ": {expected}{}", Said::Found(found.into()))?;
+            }
+            writeln!(out)
+        }
     }
 }
 
-// How many steps a file has from its front on; each is shown where that is asked for, with words or in numbers alone.
-fn walk<W: Write>(out: &mut W, file: &[u8], shown: bool, worded: bool) -> io::Result<u64> {
+// Stays (promise): loops over places in the file, here and below, as `stepfile::step_at` takes one.
+// How many steps a file has from its front on.
+fn count(file: &[u8]) -> usize {
     let mut at = 0;
     let mut n = 0;
-    loop {
-        match step_at(file, at) {
-            Found::Sound(s) => {
-                if shown {
-                    put_step(out, s, worded)?;
-                }
-                at += size(s);
-                n += 1;
-            }
-            Found::End => {
-                return Ok(n);
-            }
-            Found::Cut => {
-                return Ok(n);
-            }
-            Found::Unsound => {
-                return Ok(n);
-            }
-        }
+    while let Ok(Some(s)) = step_at(file, at) {
+        at += size(s);
+        n += 1;
     }
+    n
 }
 
 // The steps of a file: how many, and each.
 fn put_all<W: Write>(out: &mut W, file: &[u8], worded: bool) -> io::Result<()> {
-    let n = walk(out, file, false, false)?;
-    put(out, b"steps %\n", &[n])?;
-    walk(out, file, true, worded)?;
+    writeln!(out, "steps {}", count(file))?;
+    let mut at = 0;
+    while let Ok(Some(s)) = step_at(file, at) {
+        put_step(out, s, worded)?;
+        at += size(s);
+    }
     Ok(())
 }
 
@@ -89,16 +59,15 @@ pub fn put_steps<W: Write>(out: &mut W, file: &[u8]) -> io::Result<()> {
     put_all(out, file, false)
 }
 
+// Stays (plainer): the number is what is written, and a file and a list are refused with an enum of their own.
 pub fn put_refused<W: Write>(out: &mut W, number: u32, place: usize) -> io::Result<()> {
-    put(out, b"refused % %\n", &[number as u64, place as u64])
+    writeln!(out, "refused {number} {place}")
 }
 
 // The steps of a good file, with words; of another one nothing but why it is refused, and where.
 pub fn show_file<W: Write>(out: &mut W, file: &[u8]) -> io::Result<()> {
-    let a = stepfile::read_file(file);
-    if a.code() == 0 {
-        put_all(out, file, true)
-    } else {
-        put_refused(out, a.code(), a.place())
+    match stepfile::read_file(file) {
+        Ok(_) => put_all(out, file, true),
+        Err(e) => put_refused(out, e.code(), e.place()),
     }
 }

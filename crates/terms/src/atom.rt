@@ -1,128 +1,89 @@
 // src/grammar/expressions/atom.rs: what calls nothing recursive (`hardware_qubit`, which statements call too, is in `grammar`).
 ghost use Rattle.std.specs.Prelude.{◌≡◌};
-ghost use Rattle.input.specs.Input.{env};
-ghost use Rattle.runtime.specs.State.{view, Fit};
+ghost use Rattle.input.specs.Lent.{tokens};
+ghost use Rattle.runtime.specs.State.{view};
 ghost use Rattle.runtime.specs.Acts.{Does, Peeks, Steps};
 ghost use Rattle.grammar.specs.Atom as acts;
 
-use grammar::{Follows, Got, Next, Parsed, fail_if_at};
+use grammar::{Next, fail_if_at};
+use input::Input;
 use kinds::sets::Fixed;
 use kinds::{messages as say, syntax_kind_enum as k};
-use runtime::parser::{Done, Parser, Told};
+use runtime::parser::{Completed, Parser};
 
-pub fn identifier(kinds: &[u16], joints: &[u64], room: &mut [u32], p: Parser) -> Done
-    requires { Fit p }
-    ensures { Does (env kinds.now joints.now) acts.identifier (view p room.old) result.cm (view result.p room.new) }
+pub fn identifier(input: &Input, room: &mut [u32], p: Parser) -> (Parser, Completed)
+    ensures { Does (tokens input.now) acts.identifier (view p room.old) result.1 (view result.0 room.new) }
 {
-    let s = p.start(room);
-    let p1 = s.p;
-    let t = p1.expect(kinds, joints, room, k::IDENT);
-    let p2 = t.p;
-    p2.complete(room, s.m, k::IDENTIFIER)
+    let (p, m) = p.start(room);
+    let (p, _) = p.expect(input, room, k::IDENT);
+    p.complete(room, m, k::IDENTIFIER)
 }
 
 // The end of atom_expr: an atom that was made, and whether it is block-like.
-pub fn node(d: Done) -> Parsed
-    ensures { result ≡ acts.node_of d }
+pub fn node(cm: Completed) -> Option<(Completed, bool)>
+    ensures { result ≡ acts.node_of cm }
 {
-    let p = d.p;
-    let cm = d.cm;
-    Parsed {
-        p,
-        got: Got::Is(cm, cm.kind == k::BLOCK_EXPR),
-    }
+    Some((cm, cm.kind == k::BLOCK_EXPR))
 }
 
 // The error of a timing literal that begins with no number.
-fn timing(kinds: &[u16], joints: &[u64], room: &mut [u32], p: Parser) -> Parser
-    requires { Fit p }
-    ensures { Does (env kinds.now joints.now) acts.timing (view p room.old) tt (view result room.new) }
+fn timing(input: &Input, room: &mut [u32], p: Parser) -> Parser
+    ensures { Does (tokens input.now) acts.timing (view p room.old) tt (view result room.new) }
 {
-    let t = p.at_ts(kinds, joints, Fixed::TimingLiteralFirst);
-    let p1 = t.p;
-    if t.yes {
-        return p1;
+    let (p, begins) = p.at_ts(input, Fixed::TimingLiteralFirst);
+    if begins {
+        return p;
     }
-    p1.error(room, say::TIMING_AND_IMAGINARY_LITERALS_MUST_BEGIN_WITH, 0)
+    p.error(room, say::TIMING_AND_IMAGINARY_LITERALS_MUST_BEGIN_WITH, 0)
 }
 
-pub fn literal(kinds: &[u16], joints: &[u64], room: &mut [u32], p: Parser) -> Parsed
-    requires { Fit p }
-    ensures { Does (env kinds.now joints.now) acts.literal (view p room.old) result.got (view result.p room.new) }
+pub fn literal(input: &Input, room: &mut [u32], p: Parser) -> (Parser, Option<(Completed, bool)>)
+    ensures { Does (tokens input.now) acts.literal (view p room.old) result.1 (view result.0 room.new) }
 {
-    let t = p.at_ts(kinds, joints, Fixed::LiteralFirst);
-    let p1 = t.p;
-    if t.yes {
-        let p2 = fail_if_at(
-            kinds,
-            joints,
-            room,
-            p1,
-            k::STRING,
-            say::UNEXPECTED_STRING_LITERAL,
-        );
-        let s = p2.start(room);
-        let p3 = s.p;
-        let l = p3.nth(kinds, joints, 1);
-        let p4 = l.p;
-        if l.kind == k::IDENT {
-            let p5 = timing(kinds, joints, room, p4);
-            let s2 = p5.start(room);
-            let p6 = s2.p;
-            let p7 = p6.bump_any(kinds, joints, room);
-            let d = p7.complete(room, s.m, k::LITERAL);
-            let p8 = d.p;
-            let i = identifier(kinds, joints, room, p8);
-            let p9 = i.p;
-            let d2 = p9.complete(room, s2.m, k::TIMING_LITERAL);
-            let q = d2.p;
-            let cm = d2.cm;
-            return Parsed {
-                p: q,
-                got: Got::Is(cm, false),
-            };
+    let (p, begins) = p.at_ts(input, Fixed::LiteralFirst);
+    if begins {
+        let p = fail_if_at(input, room, p, k::STRING, say::UNEXPECTED_STRING_LITERAL);
+        let (p, m) = p.start(room);
+        let (p, next) = p.nth(input, 1);
+        if next == k::IDENT {
+            let p = timing(input, room, p);
+            let (p, m1) = p.start(room);
+            let p = p.bump_any(input, room);
+            let (p, _) = p.complete(room, m, k::LITERAL);
+            let (p, _) = identifier(input, room, p);
+            let (q, cm) = p.complete(room, m1, k::TIMING_LITERAL);
+            return (q, Some((cm, false)));
         }
-        let p5 = p4.bump_any(kinds, joints, room);
-        let d = p5.complete(room, s.m, k::LITERAL);
-        let q = d.p;
-        let cm = d.cm;
-        return Parsed {
-            p: q,
-            got: Got::Is(cm, false),
-        };
+        let p = p.bump_any(input, room);
+        let (q, cm) = p.complete(room, m, k::LITERAL);
+        return (q, Some((cm, false)));
     }
-    Parsed {
-        p: p1,
-        got: Got::Nothing,
-    }
+    (p, None)
 }
 
 // The modifier `inv`.
-pub fn inv_modifier(kinds: &[u16], joints: &[u64], room: &mut [u32], p: Parser) -> Parser
-    requires { Fit p }
-    ensures { Does (env kinds.now joints.now) acts.inv_modifier (view p room.old) tt (view result room.new) }
+pub fn inv_modifier(input: &Input, room: &mut [u32], p: Parser) -> Parser
+    ensures { Does (tokens input.now) acts.inv_modifier (view p room.old) tt (view result room.new) }
 {
-    let s = p.start(room);
-    let p1 = s.p;
-    let p2 = p1.bump(kinds, joints, room, k::INV_KW);
-    if p2.at(kinds, joints, k::AT) {
-        let p3 = p2.bump(kinds, joints, room, k::AT);
-        let d = p3.complete(room, s.m, k::INV_MODIFIER);
-        return d.p;
+    let (p, m) = p.start(room);
+    let p = p.bump(input, room, k::INV_KW);
+    if p.at(input, k::AT) {
+        let p = p.bump(input, room, k::AT);
+        let (p, _) = p.complete(room, m, k::INV_MODIFIER);
+        return p;
     }
-    if p2.at(kinds, joints, k::L_PAREN) {
-        let p3 = p2.error(room, say::MODIFIER_INV_ACCEPTS_NO_PARAMETER_EXPECTING_AT, 0);
-        let d = p3.complete(room, s.m, k::INV_MODIFIER);
-        return d.p;
+    if p.at(input, k::L_PAREN) {
+        let p = p.error(room, say::MODIFIER_INV_ACCEPTS_NO_PARAMETER_EXPECTING_AT, 0);
+        let (p, _) = p.complete(room, m, k::INV_MODIFIER);
+        return p;
     }
-    let p3 = p2.error(room, say::EXPECTING_AT, 0);
-    let d = p3.complete(room, s.m, k::INV_MODIFIER);
-    d.p
+    let p = p.error(room, say::EXPECTING_AT, 0);
+    let (p, _) = p.complete(room, m, k::INV_MODIFIER);
+    p
 }
 
 // The error of a modifier that must have an argument.
 pub fn no_argument(room: &mut [u32], p: Parser, kw: u16) -> Parser
-    requires { Fit p }
     ensures { Steps (acts.no_argument kw) (view p room.old) tt (view result room.new) }
 {
     if kw == k::POW_KW {
@@ -132,47 +93,40 @@ pub fn no_argument(room: &mut [u32], p: Parser, kw: u16) -> Parser
 }
 
 // A comma where the first element of a tuple is to stand.
-pub fn tuple_comma(kinds: &[u16], joints: &[u64], room: &mut [u32], p: Parser) -> Told
-    requires { Fit p }
-    ensures { Does (env kinds.now joints.now) acts.tuple_comma (view p room.old) result.yes (view result.p room.new) }
+pub fn tuple_comma(input: &Input, room: &mut [u32], p: Parser) -> (Parser, bool)
+    ensures { Does (tokens input.now) acts.tuple_comma (view p room.old) result.1 (view result.0 room.new) }
 {
-    let t = p.eat(kinds, joints, room, k::COMMA);
-    let p1 = t.p;
-    if t.yes {
-        let p2 = p1.error(room, say::EXPECTED_EXPRESSION_FOUND_COMMA_INSTEAD, 0);
-        return Told { p: p2, yes: true };
+    let (p, eaten) = p.eat(input, room, k::COMMA);
+    if eaten {
+        let p = p.error(room, say::EXPECTED_EXPRESSION_FOUND_COMMA_INSTEAD, 0);
+        return (p, true);
     }
-    Told { p: p1, yes: false }
+    (p, false)
 }
 
 // After an element of a tuple: whether there was a comma in it.
-pub fn tuple_next(kinds: &[u16], joints: &[u64], room: &mut [u32], p: Parser, comma: bool) -> Told
-    requires { Fit p }
-    ensures { Does (env kinds.now joints.now) (acts.tuple_next comma) (view p room.old) result.yes (view result.p room.new) }
+pub fn tuple_next(input: &Input, room: &mut [u32], p: Parser, comma: bool) -> (Parser, bool)
+    ensures { Does (tokens input.now) (acts.tuple_next comma) (view p room.old) result.1 (view result.0 room.new) }
 {
-    if p.at(kinds, joints, k::R_PAREN) {
-        return Told { p, yes: comma };
+    if p.at(input, k::R_PAREN) {
+        return (p, comma);
     }
-    let t = p.expect(kinds, joints, room, k::COMMA);
-    let p1 = t.p;
-    Told { p: p1, yes: true }
+    let (p, _) = p.expect(input, room, k::COMMA);
+    (p, true)
 }
 
 pub fn tuple_end(
-    kinds: &[u16],
-    joints: &[u64],
+    input: &Input,
     room: &mut [u32],
     p: Parser,
     m: u32,
     saw: bool,
     comma: bool,
-) -> Done
-    requires { Fit p }
-    ensures { Does (env kinds.now joints.now) (acts.tuple_end m saw comma) (view p room.old) result.cm (view result.p room.new) }
+) -> (Parser, Completed)
+    ensures { Does (tokens input.now) (acts.tuple_end m saw comma) (view p room.old) result.1 (view result.0 room.new) }
 {
-    let t = p.expect(kinds, joints, room, k::R_PAREN);
-    let p1 = t.p;
-    p1.complete(room, m, tuple_kind(saw, comma))
+    let (p, _) = p.expect(input, room, k::R_PAREN);
+    p.complete(room, m, tuple_kind(saw, comma))
 }
 
 fn tuple_kind(saw: bool, comma: bool) -> u16
@@ -188,66 +142,44 @@ fn tuple_kind(saw: bool, comma: bool) -> u16
 }
 
 pub fn array_next(
-    kinds: &[u16],
-    joints: &[u64],
+    input: &Input,
     room: &mut [u32],
     p: Parser,
     first: bool,
     semi: bool,
-) -> Follows
-    requires { Fit p }
-    ensures { Does (env kinds.now joints.now) (acts.array_next first semi) (view p room.old) result.next (view result.p room.new) }
+) -> (Parser, Next)
+    ensures { Does (tokens input.now) (acts.array_next first semi) (view p room.old) result.1 (view result.0 room.new) }
 {
-    let t = first_semicolon(kinds, joints, room, p, first);
-    let p1 = t.p;
-    if t.yes {
-        return Follows {
-            p: p1,
-            next: Next::Semi,
-        };
+    let (p, yes) = first_semicolon(input, room, p, first);
+    if yes {
+        return (p, Next::Semi);
     }
     if semi {
-        return Follows {
-            p: p1,
-            next: Next::Stop,
-        };
+        return (p, Next::Stop);
     }
-    if p1.at(kinds, joints, k::R_BRACK) {
-        return Follows {
-            p: p1,
-            next: Next::Comma,
-        };
+    if p.at(input, k::R_BRACK) {
+        return (p, Next::Comma);
     }
-    let u = p1.expect(kinds, joints, room, k::COMMA);
-    let p2 = u.p;
-    if u.yes {
-        return Follows {
-            p: p2,
-            next: Next::Comma,
-        };
+    let (p, met) = p.expect(input, room, k::COMMA);
+    if met {
+        return (p, Next::Comma);
     }
-    Follows {
-        p: p2,
-        next: Next::Stop,
-    }
+    (p, Next::Stop)
 }
 
 // A semicolon, which may follow the first element alone.
-fn first_semicolon(kinds: &[u16], joints: &[u64], room: &mut [u32], p: Parser, first: bool) -> Told
-    requires { Fit p }
-    ensures { Does (env kinds.now joints.now) (acts.first_semicolon first) (view p room.old) result.yes (view result.p room.new) }
+fn first_semicolon(input: &Input, room: &mut [u32], p: Parser, first: bool) -> (Parser, bool)
+    ensures { Does (tokens input.now) (acts.first_semicolon first) (view p room.old) result.1 (view result.0 room.new) }
 {
     if first {
-        return p.eat(kinds, joints, room, k::SEMICOLON);
+        return p.eat(input, room, k::SEMICOLON);
     }
-    Told { p, yes: false }
+    (p, false)
 }
 
-pub fn array_end(kinds: &[u16], joints: &[u64], room: &mut [u32], p: Parser, m: u32) -> Done
-    requires { Fit p }
-    ensures { Does (env kinds.now joints.now) (acts.array_end m) (view p room.old) result.cm (view result.p room.new) }
+pub fn array_end(input: &Input, room: &mut [u32], p: Parser, m: u32) -> (Parser, Completed)
+    ensures { Does (tokens input.now) (acts.array_end m) (view p room.old) result.1 (view result.0 room.new) }
 {
-    let t = p.expect(kinds, joints, room, k::R_BRACK);
-    let p1 = t.p;
-    p1.complete(room, m, k::ARRAY_EXPR)
+    let (p, _) = p.expect(input, room, k::R_BRACK);
+    p.complete(room, m, k::ARRAY_EXPR)
 }

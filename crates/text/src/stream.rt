@@ -1,10 +1,18 @@
 // Standard input in a room: the whole of it, or its lines, of which the room holds the longest one.
-ghost use Rattle.std.specs.Prelude.{◌≤◌, ◌<◌, length, IfOk};
+ghost use Rattle.std.specs.Prelude.{◌≡◌, ◌≤◌, ◌<◌, length, IfOk};
 
 use std::io;
 use std::io::Read;
 
+// A room, whose elements are all the same. By a call, so that a proof knows its length and does not count it.
+pub fn room<T: Copy, const N: usize>(each: T) -> [T; N]
+    ensures { N ≡ length result }
+{
+    [each; N]
+}
+
 // Reads until the room is full or the input ends, and answers how many bytes were read.
+// Stays (rule): no heap, which `read_to_end` asks for; `read_exact` does not tell how many bytes there were.
 pub fn read_full<R: Read>(input: &mut R, room: &mut [u8]) -> io::Result<usize>
     ensures { IfOk result (λ n. n ≤ length room.new) }
 {
@@ -19,18 +27,6 @@ pub fn read_full<R: Read>(input: &mut R, room: &mut [u8]) -> io::Result<usize>
     Ok(done)
 }
 
-// Moves the bytes of a range to the front.
-fn move_front(text: &mut [u8], from: usize, to: usize)
-    requires from_le_to { from ≤ to }
-    requires to_in_bounds { to ≤ length text.old }
-{
-    let mut i = from;
-    while i < to {
-        text[i - from] = text[i];
-        i += 1;
-    }
-}
-
 // Keeps the bytes of a range, the line that has not ended, and answers how many they are. One that fills the text is too long:
 // it goes on as a line that begins with `?`.
 pub fn keep(text: &mut [u8], from: usize, to: usize) -> usize
@@ -39,7 +35,7 @@ pub fn keep(text: &mut [u8], from: usize, to: usize) -> usize
     requires in_bounds { 1 < length text.old }
     ensures { result < length text.old }
 {
-    move_front(text, from, to);
+    text.copy_within(from..to, 0);
     if to - from < text.len() {
         return to - from;
     }

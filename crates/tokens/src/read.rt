@@ -1,12 +1,11 @@
 // Tokens from text.
-ghost use Rattle.std.specs.Prelude.{◌+◌, ◌≤◌, ◌<◌, length};
+ghost use Rattle.std.specs.Prelude.{◌≤◌, ◌<◌, length, IfOk, IfSome};
 
 use crate::table::kind_named;
-use std::io;
 use std::io::Write;
-use text::number::{MOST16, digits};
-use text::table::{find, put_entry};
-use text::{line_end, past, put};
+use std::{fmt, io};
+use text::number::digits;
+use text::split_line;
 
 // The entries.
 #[derive(Clone, Copy)]
@@ -16,168 +15,61 @@ pub enum Entry {
     Expr,
 }
 
-// What a text asks for: the entry, the mode, and how many tokens are held; the place at which OpenQASM text begins, 0 for none; whether a
-// word of it is neither a token nor a directive.
+// What a text asks for: the entry, the mode, and how many tokens are held; and the OpenQASM text, where it leads to one.
 #[derive(Clone, Copy)]
-pub struct Asked {
+pub struct Asked<'a> {
     pub entry: Entry,
     pub mode: u32,
     pub count: usize,
-    pub source: usize,
-    pub bad: bool,
-}
-
-impl Asked {
-    fn with_entry(self, entry: Entry) -> Self {
-        Asked {
-            entry: entry,
-            mode: self.mode,
-            count: self.count,
-            source: self.source,
-            bad: self.bad,
-        }
-    }
-
-    fn with_mode(mut self, mode: u32) -> Self {
-        self.mode = mode;
-        self
-    }
-
-    fn with_count(mut self, count: usize) -> Self {
-        self.count = count;
-        self
-    }
-
-    fn with_source(mut self, source: usize) -> Self {
-        self.source = source;
-        self
-    }
-
-    fn with_bad(mut self) -> Self {
-        self.bad = true;
-        self
-    }
+    pub source: Option<&'a [u8]>,
 }
 
 // Whether a byte ends a word: white space, or the `#` of a comment.
 fn is_blank(b: u8) -> bool {
-    match b {
-        b' ' | b'\t' | b'\r' | b'\n' | b'#' => true,
-        _ => false,
-    }
+    matches!(b, b' ' | b'\t' | b'\r' | b'\n' | b'#')
 }
 
-// The place past the byte of white space or the comment at a place; where a word begins, the place itself.
-fn skip(text: &[u8], at: usize) -> usize
-    requires { at < length text.now }
-    ensures { (at ≤ result) × (result ≤ length text.now) }
+// What stands behind the white space and the comments that a text begins with.
+fn skip(text: &[u8]) -> &[u8]
+    ensures { length result.now ≤ length text.now }
 {
-    if text[at] == b'#' {
-        return past(text, line_end(text, at));
-    }
-    if is_blank(text[at]) {
-        return at + 1;
-    }
-    at
-}
-
-// The place of the first word from a place on.
-fn word_start(text: &[u8], at: usize) -> usize
-    requires { at ≤ length text.now }
-    ensures { (at ≤ result) × (result ≤ length text.now) }
-{
-    let mut i = at;
-    while i < text.len() {
-        let next = skip(text, i);
-        if next == i {
-            return i;
+    let mut rest = text;
+    while let [b, others @ ..] = rest {
+        if !is_blank(*b) {
+            break;
         }
-        i = next;
+        rest = if *b == b'#' {
+            split_line(others).1
+        } else {
+            others
+        };
     }
-    i
+    rest
 }
 
-// The end of a word, from a place in it on.
-fn word_end(text: &[u8], at: usize) -> usize
-    requires { at ≤ length text.now }
-    ensures { (at ≤ result) × (result ≤ length text.now) }
+// The first word of a text, and what stands behind it.
+fn split_word(text: &[u8]) -> Option<(&[u8], &[u8])>
+    ensures { IfSome result (λ w. length w.1.now < length text.now) }
 {
-    let mut i = at;
-    while i < text.len() {
-        if is_blank(text[i]) {
-            return i;
-        }
-        i += 1;
-    }
-    i
+    let text = skip(text);
+    let (_, others) = text.split_first()?;
+    let more = others.iter().position(|&b| is_blank(b));
+    Some(text.split_at(1 + more.unwrap_or(others.len())))
 }
 
-// The number of the line that a place stands in, from 1.
-fn line_of(text: &[u8], at: usize) -> u64 {
-    let mut i = 0;
-    let mut n: u64 = 1;
-    while i < text.len() {
-        if i == at {
-            return n;
-        }
-        n = after_byte(text[i], n);
-        i += 1;
-    }
-    n
+// Why a word has no meaning where it stands.
+#[derive(Clone, Copy)]
+enum Bad {
+    Kind,
+    Directive,
 }
 
-// The number of the line that the next byte stands in.
-fn after_byte(b: u8, n: u64) -> u64
-    requires { n < 18446744073709551615 }
-    ensures { result ≤ n + 1 }
-{
-    if b == b'\n' { n + 1 } else { n }
-}
-
-// Says that a word has no meaning where it stands: it is no kind (0), or no directive (1).
-fn say_bad<W: Write>(
-    out: &mut W,
-    text: &[u8],
-    from: usize,
-    word: &[u8],
-    what: u64,
-) -> io::Result<()> {
-    put(out, b"line %", &[line_of(text, from)])?;
-    put_entry(out, b": no kind: \n: no directive here: \n", what)?;
-    out.write_all(word)?;
-    out.write_all(b"\n")
-}
-
-// The kind that a word names, above 65,535 for none.
-fn kind_of(word: &[u8]) -> u64 {
-    let d = digits(word, 0, 10, MOST16);
-    if d.ends(word) {
-        return d.value;
-    }
-    kind_named(word)
-}
-
-// The length of a word without the `~` of a joint token.
-fn bare(word: &[u8]) -> usize
-    ensures { result ≤ length word.now }
-{
-    let n = word.len();
-    if n > 0 {
-        if word[n - 1] == b'~' {
-            return n - 1;
-        }
-    }
-    n
-}
-
-// Sets the joint bit of a token that is joint.
-fn set_joint(joints: &mut [u64], i: usize, joint: bool) {
-    if !joint {
-        return;
-    }
-    let w = i / 64;
-    if w < joints.len() {
-        joints[w] |= 1 << (i % 64);
+impl fmt::Display for Bad {
+    fn fmt<W: fmt::Write>(&self, f: &mut fmt::Formatter<W>) -> fmt::Result {
+        f.write_str(match self {
+            Bad::Kind => "no kind",
+            Bad::Directive => "no directive here",
+        })
     }
 }
 
@@ -185,136 +77,126 @@ fn set_joint(joints: &mut [u64], i: usize, joint: bool) {
 #[derive(Clone, Copy)]
 enum Word {
     Token { kind: u16, joint: bool },
+    Directive(Directive),
+}
+
+#[derive(Clone, Copy)]
+enum Directive {
     Entry(Entry),
     Mode(u32),
     Text,
-    Bad(u64),
 }
 
-fn directive_of(word: &[u8]) -> Word {
-    let f = find(
-        b"!source\n!item\n!expr\n!mode0\n!mode1\n!text\n",
-        word,
-        true,
-    );
-    let number = f.number;
-    match number {
-        0 => Word::Entry(Entry::Source),
-        1 => Word::Entry(Entry::Item),
-        2 => Word::Entry(Entry::Expr),
-        3 => Word::Mode(0),
-        4 => Word::Mode(1),
-        5 => Word::Text,
-        _ => Word::Bad(1),
+fn directive_of(word: &[u8]) -> Option<Directive> {
+    match word {
+        b"!source" => Some(Directive::Entry(Entry::Source)),
+        b"!item" => Some(Directive::Entry(Entry::Item)),
+        b"!expr" => Some(Directive::Entry(Entry::Expr)),
+        b"!mode0" => Some(Directive::Mode(0)),
+        b"!mode1" => Some(Directive::Mode(1)),
+        b"!text" => Some(Directive::Text),
+        _ => None,
     }
 }
 
-fn token_of(word: &[u8]) -> Word {
-    let n = bare(word);
-    let k = kind_of(&word[0..n]);
-    if k > 65535 {
-        return Word::Bad(0);
-    }
-    Word::Token {
-        kind: k as u16,
-        joint: n < word.len(),
+// The kind that a word is, by its number or by its name.
+fn kind_of(word: &[u8]) -> Option<u16> {
+    match digits(word, 10, u64::from(u16::MAX)) {
+        Some((kind, [])) => Some(kind as u16),
+        _ => kind_named(word),
     }
 }
 
-// What a word is where so many tokens stand before it: behind a token there is no directive.
-fn word_of(word: &[u8], tokens: usize) -> Word {
-    if word.len() > 0 {
-        if word[0] == b'!' {
-            if tokens > 0 {
-                return Word::Bad(1);
-            }
-            return directive_of(word);
-        }
+// What a word is where so many tokens stand before it: behind a token there is no directive. The `~` at its end says that a token is joint.
+fn word_of(word: &[u8], tokens: usize) -> Result<Word, Bad> {
+    if word.starts_with(b"!") {
+        return match directive_of(word) {
+            Some(directive) if tokens == 0 => Ok(Word::Directive(directive)),
+            _ => Err(Bad::Directive),
+        };
     }
-    token_of(word)
+    let bare = word.strip_suffix(b"~").unwrap_or(word);
+    Ok(Word::Token {
+        kind: kind_of(bare).ok_or(Bad::Kind)?,
+        joint: bare.len() < word.len(),
+    })
 }
 
-// Holds a token. One that finds no room is left out: there are then more than a parse takes.
-fn hold(a: Asked, kind: u16, joint: bool, kinds: &mut [u16], joints: &mut [u64]) -> Asked {
-    let i = a.count;
-    if i >= kinds.len() {
-        return a;
-    }
-    kinds[i] = kind;
-    set_joint(joints, i, joint);
-    a.with_count(i + 1)
-}
-
-// Takes the word that begins at a place and ends at another. Behind `!text` and the byte that ends it stands OpenQASM text.
-fn take<W: Write>(
-    out: &mut W,
-    text: &[u8],
-    from: usize,
-    end: usize,
-    word: &[u8],
-    a: Asked,
-    kinds: &mut [u16],
-    joints: &mut [u64],
-) -> io::Result<Asked>
-    requires { end ≤ length text.now }
+// Puts a token into the rooms, and tells how many there are then. One that finds no room is left out: there are then more than a parse
+// takes.
+fn hold(kinds: &mut [u16], joints: &mut [u64], count: usize, kind: u16, joint: bool) -> usize
+    requires { count ≤ length kinds.old }
+    ensures { result ≤ length kinds.new }
 {
-    match word_of(word, a.count) {
-        Word::Token { kind, joint } => Ok(hold(a, kind, joint, kinds, joints)),
-        Word::Entry(e) => Ok(a.with_entry(e)),
-        Word::Mode(m) => Ok(a.with_mode(m)),
-        Word::Text => Ok(a.with_source(past(text, end))),
-        Word::Bad(what) => {
-            say_bad(out, text, from, word, what)?;
-            Ok(a.with_bad())
-        }
+    let Some(place) = kinds.get_mut(count) else {
+        return count;
+    };
+    *place = kind;
+    if let Some(bits) = joints.get_mut(count / 64)
+        && joint
+    {
+        *bits |= 1 << (count % 64);
     }
+    count + 1
 }
 
-// Reads a text up to its end or to OpenQASM text, and says of each word that is bad where it stands.
-pub fn read<W: Write>(
+// Says that a word is bad, and where: in the line that ends with it or behind it.
+fn say_bad<W: Write>(out: &mut W, read: &[u8], word: &[u8], bad: Bad) -> io::Result<()> {
+    let ended = read.iter().filter(|&&b| b == b'\n').count();
+    write!(out, "line {}: {bad}: ", ended + 1)?;
+    out.write_all(word)?;
+    writeln!(out)
+}
+
+// Reads a text up to its end or to OpenQASM text, which stands behind `!text` and the byte that ends it. It says of each word that is neither
+// a token nor a directive where it stands; what is asked for is then nothing.
+pub fn read<'a, W: Write>(
     out: &mut W,
-    text: &[u8],
+    text: &'a [u8],
     kinds: &mut [u16],
     joints: &mut [u64],
-) -> io::Result<Asked> {
-    let mut a = Asked {
+) -> io::Result<Option<Asked<'a>>>
+    ensures count { IfOk result (λ asked. IfSome asked (λ a. a.count ≤ length kinds.new)) }
+    ensures source { IfOk result (λ asked. IfSome asked (λ a. IfSome a.source (λ t. length t.now ≤ length text.entry.now))) }
+{
+    let mut asked = Asked {
         entry: Entry::Source,
         mode: 0,
         count: 0,
-        source: 0,
-        bad: false,
+        source: None,
     };
-    let mut i = word_start(text, 0);
-    while i < text.len() {
-        let end = word_end(text, i + 1);
-        a = take(out, text, i, end, &text[i..end], a, kinds, joints)?;
-        if a.source > 0 {
-            return Ok(a);
+    let mut is_good = true;
+    let mut rest = text;
+    while let Some((word, behind)) = split_word(rest) {
+        rest = behind;
+        match word_of(word, asked.count) {
+            Ok(Word::Token { kind, joint }) => {
+                asked.count = hold(kinds, joints, asked.count, kind, joint);
+            }
+            Ok(Word::Directive(Directive::Entry(entry))) => asked.entry = entry,
+            Ok(Word::Directive(Directive::Mode(mode))) => asked.mode = mode,
+            Ok(Word::Directive(Directive::Text)) => {
+                asked.source = Some(rest.get(1..).unwrap_or(&[]));
+                break;
+            }
+            Err(bad) => {
+                say_bad(out, &text[..text.len() - rest.len()], word, bad)?;
+                is_good = false;
+            }
         }
-        i = word_start(text, end);
     }
-    Ok(a)
+    Ok(is_good.then_some(asked))
 }
 
 // Whether a text leads to OpenQASM text by directives alone.
 pub fn has_source(text: &[u8]) -> bool {
-    let mut i = word_start(text, 0);
-    while i < text.len() {
-        let end = word_end(text, i + 1);
-        match directive_of(&text[i..end]) {
-            Word::Token { kind: _, joint: _ } => {
-                return false;
-            }
-            Word::Entry(_) => {}
-            Word::Mode(_) => {}
-            Word::Text => {
-                return true;
-            }
-            Word::Bad(_) => {
-                return false;
-            }
+    let mut rest = text;
+    while let Some((word, behind)) = split_word(rest) {
+        match directive_of(word) {
+            Some(Directive::Text) => return true,
+            Some(_) => rest = behind,
+            None => return false,
         }
-        i = word_start(text, end);
     }
     false
 }

@@ -2,16 +2,48 @@
 // (docs/RULES.md, section 10).
 #![tactic(auto)]
 
-ghost use Rattle.std.specs.Prelude.{◌+◌, ◌*◌, ◌≤◌, length};
-ghost use Rattle.position.specs.Inside.{Stands};
+ghost use Rattle.std.specs.Prelude.{◌≡◌, ◌+◌, ◌*◌, ◌≤◌, length, IsSomeAnd};
 
-use position::{Cursor, Position, moved, position_at, position_of, start};
+use position::{Listed, Position, start};
 use records::{Step, size};
-use std::io;
 use std::io::Write;
-use stepfile::{Found, step_at};
-use text::put;
-use tokens::table::{put_expected, put_found, put_kind, put_meaning, put_message};
+use std::{fmt, io};
+use stepfile::step_at;
+use tokens::table::Said;
+
+// A text that is read, with the list of its tokens.
+#[derive(Clone, Copy)]
+pub struct Source<'a> {
+    pub listed: Listed<'a>,
+    ghost short: { length listed.text.now ≤ 1048576 },
+}
+
+// The tokens of a parse: their kinds, and the text where they are those of one.
+#[derive(Clone, Copy)]
+pub struct Tokens<'a> {
+    pub kinds: &'a [u16],
+    pub source: Option<Source<'a>>,
+}
+
+impl<'a> Tokens<'a> {
+    // The tokens of a text.
+    pub fn of_text(kinds: &'a [u16], text: &'a [u8], words: &'a [u32]) -> Self
+        requires { length text.now ≤ 1048576 }
+        ensures kinds { result.kinds.now ≡ kinds.entry.now }
+        ensures source { IsSomeAnd result.source (λ s. (s.listed.text.now ≡ text.entry.now) × (s.listed.words.now ≡ words.entry.now)) }
+    {
+        let listed = Listed { text, words };
+        Tokens {
+            kinds,
+            source: Some(Source { listed }),
+        }
+    }
+
+    // What stands at a place: a kind, EOF behind the last token.
+    fn found(self, place: u64) -> Said {
+        Said::Found(lookahead::found_at(self.kinds, place as usize).into())
+    }
+}
 
 // Where a walk over the steps is: the nodes open, the tokens passed, the errors met.
 #[derive(Clone, Copy)]
@@ -28,148 +60,63 @@ enum Place {
     Line(Position),
 }
 
-fn put_place<W: Write>(out: &mut W, place: Place) -> io::Result<()> {
-    match place {
-        Place::Number(n) => put(out, b" at %", &[n]),
-        Place::Line(p) => put(out, b" at %:%", &[p.line, p.column]),
+impl fmt::Display for Place {
+    fn fmt<W: fmt::Write>(&self, f: &mut fmt::Formatter<W>) -> fmt::Result {
+        match *self {
+            Place::Number(n) => write!(f, "{n}"),
+            Place::Line(p) => write!(f, "{}:{}", p.line, p.column),
+        }
     }
-}
-
-fn put_level<W: Write>(out: &mut W) -> io::Result<()> {
-    out.write_all(b"  ")
 }
 
 // Two spaces for each level.
-fn put_indent<W: Write>(out: &mut W, depth: u64) -> io::Result<()> {
-    let mut left = depth;
-    while left > 0 {
-        put_level(out)?;
-        left -= 1;
-    }
-    Ok(())
-}
+#[derive(Clone, Copy)]
+struct Indent(u64);
 
-// The number of tokens that one is glued of, where it is more than one.
-fn put_raw<W: Write>(out: &mut W, raw: u64) -> io::Result<()> {
-    if raw != 1 {
-        put(out, b" (% tokens)", &[raw])?;
-    }
-    Ok(())
-}
-
-// A token, with the number of tokens that it is glued of, and where the first of them stands.
-fn put_token<W: Write>(out: &mut W, kind: u64, raw: u64, place: Place) -> io::Result<()> {
-    put_kind(out, kind)?;
-    put_raw(out, raw)?;
-    put_place(out, place)?;
-    put_end(out)
-}
-
-// A message; that of code 1 says the kind that is its argument.
-fn put_said<W: Write>(out: &mut W, code: u64, argument: u64) -> io::Result<()> {
-    if code == 1 {
-        put_expected(out, argument)
-    } else {
-        put_message(out, code)
+impl fmt::Display for Indent {
+    fn fmt<W: fmt::Write>(&self, f: &mut fmt::Formatter<W>) -> fmt::Result {
+        for _ in 0..self.0 {
+            f.write_str("  ")?;
+        }
+        Ok(())
     }
 }
 
-// The kind that stands at a place, EOF behind the last token.
-fn found(kinds: &[u16], place: u64) -> u16 {
-    lookahead::found_at(kinds, place as usize)
-}
-
-fn put_end<W: Write>(out: &mut W) -> io::Result<()> {
-    out.write_all(b"\n")
-}
-
-// What stands at a place, at the end of a line.
-fn put_standing<W: Write>(out: &mut W, kinds: &[u16], place: u64) -> io::Result<()> {
-    put_found(out, found(kinds, place) as u64)?;
-    put_end(out)
-}
-
-// What a line begins with that says a number and where: an error's code, or why a parse is refused.
-fn put_number<W: Write>(out: &mut W, what: &[u8], number: u64, place: Place) -> io::Result<()> {
-    put(out, what, &[number])?;
-    put_place(out, place)?;
-    out.write_all(b": ")
-}
-
-// An error, with the tokens passed before it, where the next one stands, and its kind.
-fn put_error<W: Write>(
-    out: &mut W,
-    kinds: &[u16],
-    code: u64,
-    argument: u64,
-    passed: u64,
-    place: Place,
-) -> io::Result<()> {
-    put_number(out, b"error %", code, place)?;
-    put_said(out, code, argument)?;
-    put_standing(out, kinds, passed)
-}
-
-// The same of one that says itself what was found.
-fn put_lacking<W: Write>(out: &mut W, kind: u64, found: u64, place: Place) -> io::Result<()> {
-    put_number(out, b"error %", 1, place)?;
-    put_expected(out, kind)?;
-    put_found(out, found)?;
-    put_end(out)
-}
-
-fn put_node<W: Write>(out: &mut W, kind: u64) -> io::Result<()> {
-    put_kind(out, kind)?;
-    put_end(out)
-}
-
-// What stands in the line of a step; a leave has none.
-fn put_what<W: Write>(
-    out: &mut W,
-    kinds: &[u16],
-    s: Step,
-    passed: u64,
-    place: Place,
-) -> io::Result<()> {
-    match s {
-        Step::Enter(kind) => put_node(out, kind as u64),
-        Step::Leave => Ok(()),
-        Step::Token(kind, count) => put_token(out, kind as u64, count as u64, place),
-        Step::Error(code, argument) => put_error(
-            out,
-            kinds,
-            code as u64,
-            argument as u64,
-            passed,
-            place,
-        ),
-        Step::Expected(kind, found) => put_lacking(out, kind as u64, found as u64, place),
-    }
-}
-
-fn is_leave(s: Step) -> bool {
-    match s {
-        Step::Enter(_) => false,
-        Step::Leave => true,
-        Step::Token(_, _) => false,
-        Step::Error(_, _) => false,
-        Step::Expected(_, _) => false,
-    }
-}
-
-// The line of a step.
+// The line of a step; a leave has none. A token has the number of those that it is glued of, where that is more than one. An error says
+// what was found: what stands where the walk is, or what it says itself.
 fn put_step<W: Write>(
     out: &mut W,
-    kinds: &[u16],
+    tokens: Tokens<'_>,
     s: Step,
     w: Walk,
     place: Place,
 ) -> io::Result<()> {
-    if !is_leave(s) {
-        put_indent(out, w.depth)?;
-        put_what(out, kinds, s, w.place, place)?;
+    let indent = Indent(w.depth);
+    match s {
+        Step::Enter(kind) => writeln!(out, "{indent}{}", Said::Name(kind.into())),
+        Step::Leave => Ok(()),
+        Step::Token(kind, count) => {
+            write!(out, "{indent}{}", Said::Name(kind.into()))?;
+            if count != 1 {
+                write!(out, " ({count} tokens)")?;
+            }
+            writeln!(out, " at {place}")
+        }
+        Step::Error(code, argument) => {
+            let said = if code == 1 {
+                Said::Expected(argument.into())
+            } else {
+                Said::Message(code.into())
+            };
+            let found = tokens.found(w.place);
+            writeln!(out, "{indent}error {code} at {place}: {said}{found}")
+        }
+        Step::Expected(kind, found) => {
+            let said = Said::Expected(kind.into());
+            let found = Said::Found(found.into());
+            writeln!(out, "{indent}error 1 at {place}: {said}{found}")
+        }
     }
-    Ok(())
 }
 
 // The walk past a step.
@@ -178,135 +125,73 @@ fn walked(s: Step, w: Walk) -> Walk
     ensures depth_bound { (result.depth ≤ w.depth + 1) × (result.place ≤ w.place + 255) × (result.errors ≤ w.errors + 1) }
     ensures place_le_place { w.place ≤ result.place }
 {
-    let mut v = w;
     match s {
-        Step::Enter(_) => {
-            v.depth = w.depth + 1;
-        }
-        Step::Leave => {
-            if w.depth > 0 {
-                v.depth = w.depth - 1;
-            }
-        }
-        Step::Token(_, count) => {
-            v.place = w.place + count as u64;
-        }
-        Step::Error(_, _) => {
-            v.errors = w.errors + 1;
-        }
-        Step::Expected(_, _) => {
-            v.errors = w.errors + 1;
-        }
+        Step::Enter(_) => Walk {
+            depth: w.depth + 1,
+            ..w
+        },
+        Step::Leave => Walk {
+            depth: w.depth.saturating_sub(1),
+            ..w
+        },
+        Step::Token(_, count) => Walk {
+            place: w.place + u64::from(count),
+            ..w
+        },
+        Step::Error(..) | Step::Expected(..) => Walk {
+            errors: w.errors + 1,
+            ..w
+        },
     }
-    v
 }
 
-// Where a walk is said to be: at the line and the column of a cursor that goes along with it, where there are lines, or else at its number.
-fn place_of(text: &[u8], words: &[u32], c: Cursor, passed: u64, lined: bool) -> Place
-    requires stands { Stands text.now words.now c }
-    requires text_len_bound { length text.now ≤ 1048576 }
+// Writes the tree of a step file of some tokens, and tells its errors. Where the tokens are those of a text it says the lines and the columns
+// at which they stand, by a cursor that goes along with the walk, and else their numbers.
+pub fn put_tree<W: Write>(out: &mut W, tokens: Tokens<'_>, file: &[u8]) -> io::Result<u64>
+    requires { length file.now ≤ 1048576 }
 {
-    if lined {
-        return Place::Line(position_at(text, words, c));
-    }
-    Place::Number(passed)
-}
-
-// Writes the tree of a step file of some tokens, and tells its errors. Where the tokens are those of a text, with the list of them all, it
-// says the lines and the columns at which they stand, and else their numbers.
-pub fn put_tree<W: Write>(
-    out: &mut W,
-    kinds: &[u16],
-    file: &[u8],
-    text: &[u8],
-    words: &[u32],
-    lined: bool,
-) -> io::Result<u64>
-    requires file_len_bound { length file.now ≤ 1048576 }
-    requires text_len_bound { length text.now ≤ 1048576 }
-{
-    let mut i = 0;
+    // Stays (promise): a loop over places in the file, as `stepfile::step_at` takes one.
+    let mut at = 0;
     let mut here = start();
     let mut w = Walk {
         depth: 0,
         place: 0,
         errors: 0,
     };
-    loop {
-        match step_at(file, i) {
-            Found::Sound(s) => {
-                here = moved(text, words, here, w.place as usize);
-                put_step(
-                    out,
-                    kinds,
-                    s,
-                    w,
-                    place_of(text, words, here, w.place, lined),
-                )?;
-                w = walked(s, w);
-                i += size(s);
+    while let Ok(Some(s)) = step_at(file, at) {
+        let place = match tokens.source {
+            Some(source) => {
+                here = source.listed.moved(here, w.place as usize);
+                Place::Line(source.listed.position_at(here))
             }
-            Found::End => {
-                return Ok(w.errors);
-            }
-            Found::Cut => {
-                return Ok(w.errors);
-            }
-            Found::Unsound => {
-                return Ok(w.errors);
-            }
-        }
+            None => Place::Number(w.place),
+        };
+        put_step(out, tokens, s, w, place)?;
+        w = walked(s, w);
+        at += size(s);
     }
+    Ok(w.errors)
 }
 
-// Whether the place of a refusal is a token's.
-fn is_token(number: u32) -> bool {
-    match number {
-        4..=8 => true,
-        _ => false,
-    }
-}
-
-// What stands at the place of a refusal, where that is a token's.
-fn put_here<W: Write>(out: &mut W, number: u32, place: u64, kinds: &[u16]) -> io::Result<()> {
-    if is_token(number) {
-        return put_standing(out, kinds, place);
-    }
-    put_end(out)
-}
-
-// Where a refusal is said to be: as `place_of`, where its place is a token's.
-fn refused_at(number: u32, place: u64, text: &[u8], words: &[u32], lined: bool) -> Place
-    requires { length text.now ≤ 1048576 }
-{
-    if lined {
-        if is_token(number) {
-            return Place::Line(position_of(text, words, place as usize));
-        }
-    }
-    Place::Number(place)
-}
-
-// The last line of a parse that is refused, and of one that is done.
+// The last line of a parse that is refused, and of one that is done. What stands at the place of a refusal is said where that is a token's.
+// Stays (plainer): the number is what is written, and lexing, parsing and resolution each refuse with an enum of their own.
 pub fn put_refused<W: Write>(
     out: &mut W,
     number: u32,
     place: u64,
-    kinds: &[u16],
-    text: &[u8],
-    words: &[u32],
-    lined: bool,
-) -> io::Result<()>
-    requires { length text.now ≤ 1048576 }
-{
-    put_number(
-        out,
-        b"refused %",
-        number as u64,
-        refused_at(number, place, text, words, lined),
-    )?;
-    put_meaning(out, number as u64)?;
-    put_here(out, number, place, kinds)
+    tokens: Tokens<'_>,
+) -> io::Result<()> {
+    let is_token = matches!(number, 4..=8);
+    let stands = match tokens.source {
+        Some(source) if is_token => Place::Line(source.listed.position_of(place as usize)),
+        _ => Place::Number(place),
+    };
+    let meaning = Said::Meaning(number.into());
+    write!(out, "refused {number} at {stands}: {meaning}")?;
+    if is_token {
+        write!(out, "{}", tokens.found(place))?;
+    }
+    writeln!(out)
 }
 
 pub fn put_done<W: Write>(
@@ -317,15 +202,8 @@ pub fn put_done<W: Write>(
     lookups: u32,
     errors: u64,
 ) -> io::Result<()> {
-    put(
+    writeln!(
         out,
-        b"done: % of % tokens, % events, % lookups, % errors\n",
-        &[
-            place as u64,
-            tokens as u64,
-            events as u64,
-            lookups as u64,
-            errors,
-        ],
+        "done: {place} of {tokens} tokens, {events} events, {lookups} lookups, {errors} errors"
     )
 }

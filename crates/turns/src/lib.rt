@@ -11,6 +11,7 @@ use event::{ERROR, EVENT_WORDS, Event, clear, decode, distance, event_at};
 use own::{cost, leads, put_own, put_wide};
 
 // The bytes of the enters that distance d from event i leads to.
+// Stays (C interface): a chain is distances in words that C lends; the loop here and the one below follow them, and count no index.
 fn chain_size(words: &[u32], i: usize, d: u32) -> usize
     requires i_in_bounds { i < length words.now / event_words }
     requires d_value { (chain (events_of words.now) i d).panics ≡ false }
@@ -65,12 +66,10 @@ fn turn_led(words: &mut [u32], out: &mut [u8], size: usize, i: usize, at: usize)
     clear(words, i);
     let j = i + d as usize;
     let c = words[EVENT_WORDS * j];
-    if words[EVENT_WORDS * j + 1] == 0 {
-        if at + 16 <= size {
-            clear(words, j);
-            let past = put_wide(out, at, c, 0);
-            return put_wide(out, past, a, 0);
-        }
+    if words[EVENT_WORDS * j + 1] == 0 && at + 16 <= size {
+        clear(words, j);
+        let past = put_wide(out, at, c, 0);
+        return put_wide(out, past, a, 0);
     }
     let chain = chain_size(words, i, d);
     put_chain(words, out, i, d, at, chain);
@@ -78,6 +77,7 @@ fn turn_led(words: &mut [u32], out: &mut [u8], size: usize, i: usize, at: usize)
 }
 
 // The turn at event i: its steps at a place, and the place past them. The file ends at `size`, and nothing past it is written.
+// Stays (promise): `turn` says what stands past `size` in a longer room, so `out` has its length beside it.
 pub fn turn(words: &mut [u32], out: &mut [u8], size: usize, i: usize, at: usize) -> usize
     requires i_in_bounds { i < length words.old / event_words }
     requires i_value { (turn_at (events_of words.old) i).panics ≡ false }
@@ -92,10 +92,8 @@ pub fn turn(words: &mut [u32], out: &mut [u8], size: usize, i: usize, at: usize)
         return turn_led(words, out, size, i, at);
     }
     clear(words, i);
-    if a < ERROR {
-        if at + 8 <= size {
-            return put_wide(out, at, a, b);
-        }
+    if a < ERROR && at + 8 <= size {
+        return put_wide(out, at, a, b);
     }
     put_own(out, at, decode(a, b))
 }

@@ -1,6 +1,5 @@
 -- `events::process` meets its contract. The invariant is `Running`, which a turn keeps.
 -- Assumes nothing.
-use Prim.Native.Nat.{◌-◌}
 use mathlib.Core.Path.{◌≡◌}
 use lib.ListN.{length}
 use Rattle.event.specs.Event.{events_of}
@@ -10,7 +9,3 @@ use Rattle.events.proofs.process.Given as goal
 abbrev pub invariant-loop-i : goal.invariant-loop-i
 invariant-loop-i l =
     (length l.words ≡ length l.initial.words) × Running (events_of l.initial.words) l.initial.out l.n l.size (events_of l.words) l.out l.i l.at
-
-abbrev pub decreases-loop-i : goal.decreases-loop-i
-decreases-loop-i l =
-    l.n - l.i

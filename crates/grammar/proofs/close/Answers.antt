@@ -5,6 +5,6 @@ use Rattle.grammar.proofs.close.Goals as goal
 
 pub returns : goal.returns
 returns c =
-    then _ _ _ _ c.expect-t.ensures
-    (step _ _ _ _ c.complete-d.ensures
-    (ends _ _ _ c.complete-d.ensures.fit))
+    then _ _ _ _ c.expect-p.ensures
+    (step _ _ _ _ c.complete-p.ensures
+    (ends _ _ _))

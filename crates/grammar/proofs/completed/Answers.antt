@@ -5,5 +5,5 @@ use Rattle.grammar.proofs.completed.Goals as goal
 
 pub returns : goal.returns
 returns c =
-    all _ _ (λ e. step _ _ _ _ c.complete-d.ensures
-    (ends _ _ _ c.complete-d.ensures.fit))
+    all _ _ (λ e. step _ _ _ _ c.complete-p.ensures
+    (ends _ _ _))

@@ -5,5 +5,5 @@ use Rattle.grammar.proofs.expected.Goals as goal
 
 pub returns : goal.returns
 returns c =
-    then _ _ _ _ c.expect-t.ensures
-    (ends _ _ _ c.expect-t.ensures.fit)
+    then _ _ _ _ c.expect-p.ensures
+    (ends _ _ _)

@@ -16,4 +16,4 @@ unfolding G.fail_if_at
 returns c =
     see _ _ _ _ c.at.ensures
     (rw c.if-at.false
-    (ends _ _ _ c.requires))
+    (ends _ _ _))

@@ -9,7 +9,7 @@ unfolding G.fail_unless_at
 returns-then-at c =
     see _ _ _ _ c.at.ensures
     (rw c.if-at.true
-    (ends _ _ _ c.requires))
+    (ends _ _ _))
 
 pub returns : goal.returns
 unfolding G.fail_unless_at

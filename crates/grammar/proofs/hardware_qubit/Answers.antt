@@ -7,6 +7,6 @@ use Rattle.grammar.proofs.hardware_qubit.Goals as goal
 pub returns : goal.returns
 unfolding A.hardware_qubit
 returns c =
-    step _ _ _ _ c.start-s.ensures
-    (then _ _ _ _ c.bump-p2.ensures
+    step _ _ _ _ c.start-p.ensures
+    (then _ _ _ _ c.bump-p.ensures
     (any _ _ _ c.complete.ensures))

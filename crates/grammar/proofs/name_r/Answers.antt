@@ -9,10 +9,10 @@ unfolding G.name_r
 returns-then-at c =
     see _ _ _ _ c.at.ensures
     (rw c.if-at.true
-    (step _ _ _ _ c.start-s.ensures
-    (then _ _ _ _ c.bump-p2.ensures
-    (step _ _ _ _ c.complete-d.ensures
-    (ends _ _ _ c.complete-d.ensures.fit)))))
+    (step _ _ _ _ c.start-p.ensures
+    (then _ _ _ _ c.bump-p.ensures
+    (step _ _ _ _ c.complete-p.ensures
+    (ends _ _ _)))))
 
 pub returns-then-at-2 : goal.returns-then-at-2
 unfolding G.name_r
@@ -21,10 +21,10 @@ returns-then-at-2 c =
     (rw c.if-at.false
     (see _ _ _ _ c.at-2.ensures
     (rw c.if-at-2.true
-    (step _ _ _ _ c.start-s-then-at-2.ensures
-    (then _ _ _ _ c.bump-p2-then-at-2.ensures
-    (step _ _ _ _ c.complete-d-then-at-2.ensures
-    (ends _ _ _ c.complete-d-then-at-2.ensures.fit)))))))
+    (step _ _ _ _ c.start-p-then-at-2.ensures
+    (then _ _ _ _ c.bump-p-then-at-2.ensures
+    (step _ _ _ _ c.complete-p-then-at-2.ensures
+    (ends _ _ _)))))))
 
 pub returns : goal.returns
 unfolding G.name_r

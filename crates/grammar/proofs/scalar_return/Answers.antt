@@ -8,13 +8,13 @@ use Rattle.grammar.proofs.scalar_return.Goals as goal
 pub returns-then-is_scalar_type : goal.returns-then-is_scalar_type
 unfolding G.scalar_return
 returns-then-is_scalar_type c =
-    peek _ _ _ _ _ c.current-l.ensures
+    peek _ _ _ _ _ c.current-p.ensures
     (rw (sym c.is_scalar_type.ensures ∙ c.if-is_scalar_type.true)
-    (ends _ _ _ c.current-l.ensures.fit))
+    (ends _ _ _))
 
 pub returns : goal.returns
 unfolding G.scalar_return
 returns c =
-    peek _ _ _ _ _ c.current-l.ensures
+    peek _ _ _ _ _ c.current-p.ensures
     (rw (sym c.is_scalar_type.ensures ∙ c.if-is_scalar_type.false)
     (any _ _ _ c.error.ensures))

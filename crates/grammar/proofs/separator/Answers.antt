@@ -9,24 +9,24 @@ unfolding G.separator
 returns-then-at c =
     see _ _ _ _ c.at.ensures
     (rw c.if-at.true
-    (then _ _ _ _ c.bump-p1.ensures
-    (ends _ _ _ c.bump-p1.ensures.fit)))
+    (then _ _ _ _ c.bump-p.ensures
+    (ends _ _ _)))
 
-pub returns-then-t : goal.returns-then-t
+pub returns-then-begins : goal.returns-then-begins
 unfolding G.separator
-returns-then-t c =
+returns-then-begins c =
     see _ _ _ _ c.at.ensures
     (rw c.if-at.false
-    (peek _ _ _ _ _ c.at_ts-t.ensures
-    (rw c.if-t.true
-    (then _ _ _ _ c.error_expected-p3.ensures
-    (ends _ _ _ c.error_expected-p3.ensures.fit)))))
+    (peek _ _ _ _ _ c.at_ts-p.ensures
+    (rw c.if-begins.true
+    (then _ _ _ _ c.error_expected-p.ensures
+    (ends _ _ _)))))
 
 pub returns : goal.returns
 unfolding G.separator
 returns c =
     see _ _ _ _ c.at.ensures
     (rw c.if-at.false
-    (peek _ _ _ _ _ c.at_ts-t.ensures
-    (rw c.if-t.false
-    (ends _ _ _ c.at_ts-t.ensures.fit))))
+    (peek _ _ _ _ _ c.at_ts-p.ensures
+    (rw c.if-begins.false
+    (ends _ _ _))))

@@ -9,20 +9,20 @@ pub returns-then-at : goal.returns-then-at
 unfolding E.var_name
 returns-then-at c =
     simp (assoc, cond-bind, done-bind)
-    (step _ _ _ _ c.start-s.ensures
+    (step _ _ _ _ c.start-p.ensures
     (see _ _ _ _ c.at.ensures
     (rw c.if-at.true
-    (then _ _ _ _ c.bump_any-p2.ensures
-    (step _ _ _ _ c.complete-d.ensures
-    (ends _ _ _ c.complete-d.ensures.fit))))))
+    (then _ _ _ _ c.bump_any-p.ensures
+    (step _ _ _ _ c.complete-p.ensures
+    (ends _ _ _))))))
 
 pub returns : goal.returns
 unfolding E.var_name
 returns c =
     simp (assoc, cond-bind, done-bind)
-    (step _ _ _ _ c.start-s.ensures
+    (step _ _ _ _ c.start-p.ensures
     (see _ _ _ _ c.at.ensures
     (rw c.if-at.false
-    (step _ _ _ _ c.error-p3.ensures
-    (step _ _ _ _ c.complete-d-2.ensures
-    (ends _ _ _ c.complete-d-2.ensures.fit))))))
+    (step _ _ _ _ c.error-p.ensures
+    (step _ _ _ _ c.complete-p-2.ensures
+    (ends _ _ _))))))

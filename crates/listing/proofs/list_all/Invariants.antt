@@ -1,10 +1,8 @@
-use Rattle.std.specs.Prelude.{◌≤◌, ◌-◌, length}
+use Rattle.std.proofs.Common.{◌≤◌, length}
 use Rattle.listing.proofs.list_all.Given as goal
 
-abbrev pub invariant-loop-l : goal.invariant-loop-l
-invariant-loop-l _ l =
-    l.at ≤ length l.text
+abbrev pub invariant-loop-next : goal.invariant-loop-next
+invariant-loop-next _ l = length l.rest ≤ length l.text
 
-abbrev pub decreases-loop-l : goal.decreases-loop-l
-decreases-loop-l _ l =
-    length l.text - l.at
+abbrev pub decreases-loop-next : goal.decreases-loop-next
+decreases-loop-next _ l = length l.rest

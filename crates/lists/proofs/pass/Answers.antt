@@ -29,10 +29,10 @@ returns-then-b-gt65535 c =
     let w = c.args.words.now in
     rw (← event-index w c.args.i c.requires.i_in_bounds) (sym (next-far _ _ _ _ c.if-a-ge-ERROR.false c.if-b-gt65535.true (omega (arith, length-drop (suc c.args.i) (events_of w), length-events w))))
 
-pub returns-then-all-clip-eq0 : goal.returns-then-all-clip-eq0
-returns-then-all-clip-eq0 c =
+pub returns-then-all-min-eq0 : goal.returns-then-all-min-eq0
+returns-then-all-min-eq0 c =
     let w = c.args.words.now in
-    rw (← event-index w c.args.i c.requires.i_in_bounds) (sym (next-none _ _ _ (bit-off _ _ _ (rw c.clip.ensures at c.if-all-clip-eq0.true) (c.traits-all.ensures _ (omega arith)))))
+    rw (← event-index w c.args.i c.requires.i_in_bounds) (sym (next-none _ _ _ (bit-off _ _ _ (rw c.min.ensures at c.if-all-min-eq0.true) (c.traits-all.ensures _ (omega arith)))))
 
 pub lands_on-requires-clause-d_bound : goal.lands_on-requires-clause-d_bound
 lands_on-requires-clause-d_bound c = omega (arith, c.leads.ensures, distance-le (get_or c.args.words.now (2 * c.args.i) 0) (get_or c.args.words.now (2 * c.args.i + 1) 0))
@@ -45,10 +45,10 @@ returns-then-not-lands_on c =
 pub returns-then-h-eq0 : goal.returns-then-h-eq0
 returns-then-h-eq0 c =
     let w = c.args.words.now in
-    rw (← event-index w c.args.i c.requires.i_in_bounds) (sym (next-fault _ _ _ _ (bit-on _ _ _ (rw c.clip.ensures at c.if-all-clip-eq0.false) (c.traits-all.ensures _ (omega arith))) (rw c.leads.ensures at (sym c.lands_on.ensures ∙ c.if-not-lands_on.false)) c.if-h-eq0.true))
+    rw (← event-index w c.args.i c.requires.i_in_bounds) (sym (next-fault _ _ _ _ (bit-on _ _ _ (rw c.min.ensures at c.if-all-min-eq0.false) (c.traits-all.ensures _ (omega arith))) (rw c.leads.ensures at (sym c.lands_on.ensures ∙ c.if-not-lands_on.false)) c.if-h-eq0.true))
 
 pub returns : goal.returns
 returns c =
     let w = c.args.words.now in
-    let q = bit-on _ _ _ (rw c.clip.ensures at c.if-all-clip-eq0.false) (c.traits-all.ensures _ (omega arith)) in
+    let q = bit-on _ _ _ (rw c.min.ensures at c.if-all-min-eq0.false) (c.traits-all.ensures _ (omega arith)) in
     rw (← event-index w c.args.i c.requires.i_in_bounds) (sym (next-passes _ _ _ _ q (rw c.leads.ensures at (sym c.lands_on.ensures ∙ c.if-not-lands_on.false)) c.if-h-eq0.false), tells-cost _ _ q)

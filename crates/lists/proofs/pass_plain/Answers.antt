@@ -1,10 +1,13 @@
 -- `lists::pass_plain` meets its contract: no start, so what stands behind does not matter. Assumes nothing.
 use native.Mathlib.Omega.{arith}
 use Prim.Native.Nat.{ℕ, zero, suc, ◌-◌}
-use mathlib.Core.Path.{◌≡◌, refl, ap, ◌∙◌}
+use mathlib.Core.Path.{◌≡◌, refl, sym, ap, ◌∙◌}
+use mathlib.Core.Bool.{true≢false}
+use mathlib.Core.Logic.{inl, inr}
 use mathlib.Core.List.{List}
 use Rattle.event.specs.declared.Event.{Event}
 use Rattle.event.specs.declared.Event.TheVariants.{Finish}
+use Rattle.event.specs.Event.{is_start}
 use Rattle.lists.specs.Check.{Next.Open, next}
 use Rattle.lists.proofs.pass_plain.Goals as goal
 
@@ -24,12 +27,15 @@ returns-else-held-eq0 c es = (ap (λ (e : Event). next e c.args.held es) c.in-Fi
 
 pub returns-in-Token : goal.returns-in-Token
 unfolding next
-returns-in-Token c es = (ap (λ (e : Event). next e c.args.held es) c.in-Token.is, c.cost-in-Token.ensures)
+returns-in-Token c es = (elim c.in-Token.is [ inl (k, n, e) ↦ is e | inr (d, x, f, e) ↦ is e ], c.cost-in-Token.ensures)
+  where
+    is : {e : Event} → c.args.e ≡ e → next c.args.e c.args.held es ≡ next e c.args.held es
+    is e = ap (λ (e : Event). next e c.args.held es) e
 
-pub returns-in-Error : goal.returns-in-Error
+-- no start is meant, and words that say no event
+pub returns-in-Start : goal.returns-in-Start
 unfolding next
-returns-in-Error c es = (ap (λ (e : Event). next e c.args.held es) c.in-Error.is, c.cost-in-Error.ensures)
-
-pub returns-in-NoEvent : goal.returns-in-NoEvent
-unfolding next
-returns-in-NoEvent c es = ap (λ (e : Event). next e c.args.held es) c.in-NoEvent.is
+returns-in-Start c es = elim c.in-Start.is [
+  | inl (k, d, e) ↦ absurd (true≢false (sym (ap is_start e) ∙ c.requires))
+  | inr (a, b, e) ↦ ap (λ (e : Event). next e c.args.held es) e
+]

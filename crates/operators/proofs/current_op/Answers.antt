@@ -13,4 +13,4 @@ overflow_cast-op-2 c = omega (arith, packed-small (mode-fair _) _ c.power_of-byt
 
 pub returns : goal.returns
 unfolding S.current_op
-returns c = only _ _ _ (λ room. peek _ _ _ _ _ c.current-l.ensures (peek _ _ _ _ _ c.operator_at-kind.ensures (rw (c.power_of-byte.ensures, packed-power (mode-fair _), packed-next (mode-fair _)) (ends _ _ _ c.operator_at-kind.ensures.fit))))
+returns c = only _ _ _ (λ room. peek _ _ _ _ _ c.current-p.ensures (peek _ _ _ _ _ c.operator_at-kind.ensures (rw (c.power_of-byte.ensures, packed-power (mode-fair _), packed-next (mode-fair _)) (ends _ _ _))))

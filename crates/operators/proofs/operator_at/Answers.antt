@@ -21,4 +21,4 @@ returns-in_default c =
     rw (ne_eqb k DOT (search rules)) (
     rw (ne_eqb k BANG (search rules)) (
     rw (ne_eqb k MINUS (search rules)) (
-    (ends _ _ _ c.requires)))))))))))))))
+    (ends _ _ _)))))))))))))))

@@ -1,10 +1,8 @@
-use Rattle.std.specs.Prelude.{◌-◌, ◌≤◌, length}
+use Rattle.std.proofs.Common.{◌≤◌, length}
 use Rattle.replay.proofs.answer_lines.Given as goal
 
-abbrev pub invariant-loop-at : goal.invariant-loop-at
-invariant-loop-at _ l =
-    l.at ≤ length l.text
+abbrev pub invariant-loop-end : goal.invariant-loop-end
+invariant-loop-end _ l = length l.rest ≤ length l.text
 
-abbrev pub decreases-loop-at : goal.decreases-loop-at
-decreases-loop-at _ l =
-    length l.text - l.at
+abbrev pub decreases-loop-end : goal.decreases-loop-end
+decreases-loop-end _ l = length l.rest

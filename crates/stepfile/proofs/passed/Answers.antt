@@ -3,10 +3,10 @@ use mathlib.Core.Path.{sym, ◌∙◌}
 use Rattle.stepfile.specs.Inside.{passed}
 use Rattle.stepfile.proofs.passed.Goals as goal
 
-pub returns-in-Open : goal.returns-in-Open
+pub returns-in_default : goal.returns-in_default
 unfolding passed
-returns-in-Open c = rw (sym c.nest.ensures ∙ c.in-Open.is, c.size.ensures)
+returns-in_default c = rw (sym c.nest.ensures ∙ c.in_default.is)
 
-pub returns-in-Fault : goal.returns-in-Fault
+pub returns : goal.returns
 unfolding passed
-returns-in-Fault c = rw (sym c.nest.ensures ∙ c.in-Fault.is)
+returns c = rw (sym c.nest.ensures ∙ c.in-Some.is, c.size.ensures)

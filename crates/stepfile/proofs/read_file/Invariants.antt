@@ -6,10 +6,10 @@ use Rattle.stepfile.specs.File.{file_read}
 use Rattle.stepfile.specs.Inside.{Fits, from}
 use Rattle.stepfile.proofs.read_file.Given as goal
 
-abbrev pub invariant-loop-v : goal.invariant-loop-v
-invariant-loop-v l =
+abbrev pub invariant-loop-s : goal.invariant-loop-s
+invariant-loop-s l =
     Fits l.file l.w × (from (suc (length l.file)) l.file l.w ≡ file_read l.file)
 
-abbrev pub decreases-loop-v : goal.decreases-loop-v
-decreases-loop-v l =
+abbrev pub decreases-loop-s : goal.decreases-loop-s
+decreases-loop-s l =
     length l.file - l.w.at

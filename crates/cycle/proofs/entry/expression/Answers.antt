@@ -7,5 +7,5 @@ use Rattle.cycle.proofs.entry.expression.Goals as goal
 pub returns : goal.returns
 unfolding T.one_expression
 returns c =
-    then _ _ _ _ c.expr_bp-e.ensures
-    (ends _ _ _ c.expr_bp-e.ensures.fit)
+    then _ _ _ _ c.expr_bp-p.ensures
+    (ends _ _ _)

@@ -7,7 +7,7 @@ use Rattle.cycle.proofs.entry.source_file.Goals as goal
 pub returns : goal.returns
 unfolding T.source_file
 returns c =
-    step _ _ _ _ c.start-s.ensures
-    (then _ _ _ _ c.source_file_contents-p2.ensures
-    (step _ _ _ _ c.complete-d.ensures
-    (ends _ _ _ c.complete-d.ensures.fit)))
+    step _ _ _ _ c.start-p.ensures
+    (then _ _ _ _ c.source_file_contents-p.ensures
+    (step _ _ _ _ c.complete-p.ensures
+    (ends _ _ _)))

@@ -3,7 +3,7 @@
 use mathlib.Core.Bool.{false}
 use mathlib.Core.Path.{◌≡◌}
 use lib.ListN.{length}
-use Rattle.input.specs.Input.{env}
+use Rattle.input.specs.Lent.{tokens}
 use Rattle.runtime.specs.State.{view}
 use Rattle.runtime.specs.Acts as acts
 use Rattle.runtime.proofs.Laws.{Ran}
@@ -12,10 +12,10 @@ use Rattle.grammar.specs.Items as I
 use Rattle.grammar.specs.Entry.{counted}
 use Rattle.cycle.proofs.entry.source_file_contents.Given as goal
 
-abbrev pub invariant-loop-q : goal.invariant-loop-q
-invariant-loop-q l =
-    (length l.room ≡ length l.initial.room) × Ran (env l.kinds l.joints) (I.source_file_contents_round (counted (table_of l.mode) l.left) false) tt (view l.initial.q l.initial.room) tt (view l.q l.room)
+abbrev pub invariant-loop-level : goal.invariant-loop-level
+invariant-loop-level l =
+    (length l.room ≡ length l.initial.room) × Ran (tokens l.input) (I.source_file_contents_round (counted (table_of l.level.mode) l.level.left) false) tt (view l.initial.q l.initial.room) tt (view l.q l.room)
 
-abbrev pub decreases-loop-q : goal.decreases-loop-q
-decreases-loop-q l =
+abbrev pub decreases-loop-level : goal.decreases-loop-level
+decreases-loop-level l =
     acts.left l.q

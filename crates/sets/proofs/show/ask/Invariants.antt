@@ -1,12 +1,8 @@
-use Rattle.std.specs.Prelude.{◌≡◌, true, ◌-◌, ◌≤◌}
+use Rattle.std.specs.Prelude.{◌≡◌, true}
 use Rattle.kinds.specs.Membership.{one_of, count}
 use Rattle.kinds.specs.Sets.{kinds_of}
 use Rattle.sets.proofs.show.ask.Given as goal
 
 abbrev pub invariant-loop-n : goal.invariant-loop-n
 invariant-loop-n l =
-    (l.n ≤ 65536) × (l.listed ≡ count l.n (one_of (kinds_of l.set))) × (l.same ≡ true)
-
-abbrev pub decreases-loop-n : goal.decreases-loop-n
-decreases-loop-n l =
-    65536 - l.n
+    (l.listed ≡ count l.n (one_of (kinds_of l.set))) × (l.same ≡ true)

@@ -7,7 +7,7 @@ use Rattle.statements.proofs.items.break_.Goals as goal
 pub returns : goal.returns
 unfolding I.break
 returns c =
-    then _ _ _ _ c.bump-p1.ensures
-    (then _ _ _ _ c.expect-t.ensures
-    (step _ _ _ _ c.complete-d.ensures
-    (ends _ _ _ c.complete-d.ensures.fit)))
+    then _ _ _ _ c.bump-p.ensures
+    (then _ _ _ _ c.expect-p.ensures
+    (step _ _ _ _ c.complete-p.ensures
+    (ends _ _ _)))

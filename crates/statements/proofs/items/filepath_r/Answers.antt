@@ -9,10 +9,10 @@ unfolding I.filepath_r
 returns-then-at c =
     see _ _ _ _ c.at.ensures
     (rw c.if-at.true
-    (step _ _ _ _ c.start-s.ensures
-    (then _ _ _ _ c.bump-p2.ensures
-    (step _ _ _ _ c.complete-d.ensures
-    (ends _ _ _ c.complete-d.ensures.fit)))))
+    (step _ _ _ _ c.start-p.ensures
+    (then _ _ _ _ c.bump-p.ensures
+    (step _ _ _ _ c.complete-p.ensures
+    (ends _ _ _)))))
 
 pub returns : goal.returns
 unfolding I.filepath_r

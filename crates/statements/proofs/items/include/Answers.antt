@@ -7,8 +7,8 @@ use Rattle.statements.proofs.items.include.Goals as goal
 pub returns : goal.returns
 unfolding I.include
 returns c =
-    then _ _ _ _ c.bump-p1.ensures
-    (then _ _ _ _ c.filepath_r-p2.ensures
-    (then _ _ _ _ c.expect-t.ensures
-    (step _ _ _ _ c.complete-d.ensures
-    (ends _ _ _ c.complete-d.ensures.fit))))
+    then _ _ _ _ c.bump-p.ensures
+    (then _ _ _ _ c.filepath_r-p.ensures
+    (then _ _ _ _ c.expect-p.ensures
+    (step _ _ _ _ c.complete-p.ensures
+    (ends _ _ _))))

@@ -8,13 +8,13 @@ use Rattle.statements.proofs.items.io_type.Goals as goal
 pub returns-then-is_classical_type : goal.returns-then-is_classical_type
 unfolding I.io_type
 returns-then-is_classical_type c =
-    peek _ _ _ _ _ c.current-l.ensures
+    peek _ _ _ _ _ c.current-p.ensures
     (rw (sym c.is_classical_type.ensures ∙ c.if-is_classical_type.true)
-    (ends _ _ _ c.current-l.ensures.fit))
+    (ends _ _ _))
 
 pub returns : goal.returns
 unfolding I.io_type
 returns c =
-    peek _ _ _ _ _ c.current-l.ensures
+    peek _ _ _ _ _ c.current-p.ensures
     (rw (sym c.is_classical_type.ensures ∙ c.if-is_classical_type.false)
     (any _ _ _ c.error.ensures))

@@ -11,10 +11,10 @@ returns-then-at c =
     simp (assoc, cond-bind, done-bind)
     (see _ _ _ _ c.at.ensures
     (rw c.if-at.true
-    (then _ _ _ _ c.hardware_qubit-h.ensures
-    (then _ _ _ _ c.expect-t.ensures
-    (step _ _ _ _ c.complete-d.ensures
-    (ends _ _ _ c.complete-d.ensures.fit))))))
+    (then _ _ _ _ c.hardware_qubit-p.ensures
+    (then _ _ _ _ c.expect-p.ensures
+    (step _ _ _ _ c.complete-p.ensures
+    (ends _ _ _))))))
 
 pub returns : goal.returns
 unfolding I.qubit_end
@@ -22,7 +22,7 @@ returns c =
     simp (assoc, cond-bind, done-bind)
     (see _ _ _ _ c.at.ensures
     (rw c.if-at.false
-    (then _ _ _ _ c.var_name-p3.ensures
-    (then _ _ _ _ c.expect-t-2.ensures
-    (step _ _ _ _ c.complete-d-2.ensures
-    (ends _ _ _ c.complete-d-2.ensures.fit))))))
+    (then _ _ _ _ c.var_name-p.ensures
+    (then _ _ _ _ c.expect-p-2.ensures
+    (step _ _ _ _ c.complete-p-2.ensures
+    (ends _ _ _))))))

@@ -8,7 +8,7 @@ pub returns-then-number : goal.returns-then-number
 unfolding I.skip_to_semicolon
 returns-then-number c =
     rw c.if-number.true
-    (ends _ _ _ c.requires)
+    (ends _ _ _)
 
 pub returns-then-at : goal.returns-then-at
 unfolding I.skip_to_semicolon
@@ -16,7 +16,7 @@ returns-then-at c =
     rw c.if-number.false
     (see _ _ _ _ c.at.ensures
     (rw c.if-at.true
-    (ends _ _ _ c.requires)))
+    (ends _ _ _)))
 
 pub returns : goal.returns
 unfolding I.skip_to_semicolon

@@ -7,9 +7,9 @@ use Rattle.statements.proofs.items.version_.Goals as goal
 pub returns : goal.returns
 unfolding I.version
 returns c =
-    step _ _ _ _ c.start-s.ensures
-    (then _ _ _ _ c.expect-t.ensures
-    (then _ _ _ _ c.skip_to_semicolon-p3.ensures
-    (then _ _ _ _ c.expect-u.ensures
-    (step _ _ _ _ c.complete-d.ensures
-    (ends _ _ _ c.complete-d.ensures.fit)))))
+    step _ _ _ _ c.start-p.ensures
+    (then _ _ _ _ c.expect-p.ensures
+    (then _ _ _ _ c.skip_to_semicolon-p.ensures
+    (then _ _ _ _ c.expect-p-2.ensures
+    (step _ _ _ _ c.complete-p.ensures
+    (ends _ _ _)))))

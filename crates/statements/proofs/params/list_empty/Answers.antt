@@ -17,10 +17,10 @@ unfolding P.list_empty
 returns-else-n-lt1 c =
     all _ _ (λ e. rw c.if-one.true
     (rw (le-ltb _ _ c.if-n-lt1.false)
-    (ends _ _ _ c.requires)))
+    (ends _ _ _)))
 
 pub returns-else-one : goal.returns-else-one
 unfolding P.list_empty
 returns-else-one c =
     all _ _ (λ e. rw c.if-one.false
-    (ends _ _ _ c.requires))
+    (ends _ _ _))

@@ -9,17 +9,17 @@ pub returns-then-shape : goal.returns-then-shape
 unfolding P.list_end
 returns-then-shape c =
     simp (assoc, cond-bind, done-bind)
-    (step _ _ _ _ c.list_empty-p1.ensures
+    (step _ _ _ _ c.list_empty-p.ensures
     (rw c.if-shape.true
-    (then _ _ _ _ c.expect-t.ensures
-    (step _ _ _ _ c.complete-d.ensures
-    (ends _ _ _ c.complete-d.ensures.fit)))))
+    (then _ _ _ _ c.expect-p.ensures
+    (step _ _ _ _ c.complete-p.ensures
+    (ends _ _ _)))))
 
 pub returns : goal.returns
 unfolding P.list_end
 returns c =
     simp (assoc, cond-bind, done-bind)
-    (step _ _ _ _ c.list_empty-p1.ensures
+    (step _ _ _ _ c.list_empty-p.ensures
     (rw c.if-shape.false
-    (step _ _ _ _ c.complete-d-2.ensures
-    (ends _ _ _ c.complete-d-2.ensures.fit))))
+    (step _ _ _ _ c.complete-p-2.ensures
+    (ends _ _ _))))

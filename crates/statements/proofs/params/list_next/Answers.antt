@@ -10,7 +10,7 @@ unfolding P.list_next
 returns-then-at_list_end c =
     list-end _ _ _ _ c.at_list_end.ensures
     (rw c.if-at_list_end.true
-    (ends _ _ _ c.requires))
+    (ends _ _ _))
 
 pub returns-then-at : goal.returns-then-at
 unfolding P.list_next
@@ -19,20 +19,20 @@ returns-then-at c =
     (rw c.if-at_list_end.false
     (see _ _ _ _ c.at.ensures
     (rw c.if-at.true
-    (then _ _ _ _ c.bump-p1.ensures
-    (ends _ _ _ c.bump-p1.ensures.fit)))))
+    (then _ _ _ _ c.bump-p.ensures
+    (ends _ _ _)))))
 
-pub returns-then-t : goal.returns-then-t
+pub returns-then-begins : goal.returns-then-begins
 unfolding P.list_next
-returns-then-t c =
+returns-then-begins c =
     list-end _ _ _ _ c.at_list_end.ensures
     (rw c.if-at_list_end.false
     (see _ _ _ _ c.at.ensures
     (rw c.if-at.false
-    (peek _ _ _ _ _ c.at_ts-t.ensures
-    (rw c.if-t.true
-    (step _ _ _ _ c.error-p3.ensures
-    (ends _ _ _ c.error-p3.ensures.fit)))))))
+    (peek _ _ _ _ _ c.at_ts-p.ensures
+    (rw c.if-begins.true
+    (step _ _ _ _ c.error-p.ensures
+    (ends _ _ _)))))))
 
 pub returns : goal.returns
 unfolding P.list_next
@@ -41,6 +41,6 @@ returns c =
     (rw c.if-at_list_end.false
     (see _ _ _ _ c.at.ensures
     (rw c.if-at.false
-    (peek _ _ _ _ _ c.at_ts-t.ensures
-    (rw c.if-t.false
-    (ends _ _ _ c.at_ts-t.ensures.fit))))))
+    (peek _ _ _ _ _ c.at_ts-p.ensures
+    (rw c.if-begins.false
+    (ends _ _ _))))))

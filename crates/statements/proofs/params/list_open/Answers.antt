@@ -9,15 +9,15 @@ pub returns-then-shape : goal.returns-then-shape
 unfolding P.list_open
 returns-then-shape c =
     simp (assoc, cond-bind, done-bind)
-    (step _ _ _ _ c.start-s.ensures
+    (step _ _ _ _ c.start-p.ensures
     (rw c.if-shape.true
-    (then _ _ _ _ c.bump-p2.ensures
-    (ends _ _ _ c.bump-p2.ensures.fit))))
+    (then _ _ _ _ c.bump-p.ensures
+    (ends _ _ _))))
 
 pub returns : goal.returns
 unfolding P.list_open
 returns c =
     simp (assoc, cond-bind, done-bind)
-    (step _ _ _ _ c.start-s.ensures
+    (step _ _ _ _ c.start-p.ensures
     (rw c.if-shape.false
-    (ends _ _ _ c.start-s.ensures.fit)))
+    (ends _ _ _)))

@@ -8,13 +8,13 @@ use Rattle.statements.proofs.params.param_ahead.Goals as goal
 pub returns-then-is_type : goal.returns-then-is_type
 unfolding P.param_ahead
 returns-then-is_type c =
-    only _ _ _ (λ room. peek _ _ _ _ _ c.current-l.ensures
+    only _ _ _ (λ room. peek _ _ _ _ _ c.current-p.ensures
     (rw (sym c.is_type.ensures ∙ c.if-is_type.true)
-    (ends _ _ _ c.current-l.ensures.fit)))
+    (ends _ _ _)))
 
 pub returns : goal.returns
 unfolding P.param_ahead
 returns c =
-    only _ _ _ (λ room. peek _ _ _ _ _ c.current-l.ensures
+    only _ _ _ (λ room. peek _ _ _ _ _ c.current-p.ensures
     (rw (sym c.is_type.ensures ∙ c.if-is_type.false)
     (peeks _ _ _ _ c.at_ts.ensures)))

@@ -9,15 +9,15 @@ unfolding P.param_untyped
 returns-then-at c =
     see _ _ _ _ c.at.ensures
     (rw c.if-at.true
-    (then _ _ _ _ c.bump-p1.ensures
-    (step _ _ _ _ c.complete-d.ensures
-    (ends _ _ _ c.complete-d.ensures.fit))))
+    (then _ _ _ _ c.bump-p.ensures
+    (step _ _ _ _ c.complete-p.ensures
+    (ends _ _ _))))
 
 pub returns : goal.returns
 unfolding P.param_untyped
 returns c =
     see _ _ _ _ c.at.ensures
     (rw c.if-at.false
-    (step _ _ _ _ c.error-p3.ensures
-    (step _ _ _ _ c.abandon-p4.ensures
-    (ends _ _ _ c.abandon-p4.ensures.fit))))
+    (step _ _ _ _ c.error-p.ensures
+    (step _ _ _ _ c.abandon-p.ensures
+    (ends _ _ _))))

@@ -7,5 +7,5 @@ use Rattle.terms.proofs.atom.array_end.Goals as goal
 pub returns : goal.returns
 unfolding A.array_end
 returns c =
-    then _ _ _ _ c.expect-t.ensures
+    then _ _ _ _ c.expect-p.ensures
     (any _ _ _ c.complete.ensures)

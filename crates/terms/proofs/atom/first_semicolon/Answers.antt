@@ -14,4 +14,4 @@ pub returns : goal.returns
 unfolding A.first_semicolon
 returns c =
     rw c.if-first.false
-    (ends _ _ _ c.requires)
+    (ends _ _ _)

@@ -7,6 +7,6 @@ use Rattle.terms.proofs.atom.identifier.Goals as goal
 pub returns : goal.returns
 unfolding A.identifier
 returns c =
-    step _ _ _ _ c.start-s.ensures
-    (then _ _ _ _ c.expect-t.ensures
+    step _ _ _ _ c.start-p.ensures
+    (then _ _ _ _ c.expect-p.ensures
     (any _ _ _ c.complete.ensures))

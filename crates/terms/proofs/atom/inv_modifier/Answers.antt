@@ -9,38 +9,38 @@ pub returns-then-at : goal.returns-then-at
 unfolding A.inv_modifier
 returns-then-at c =
     simp (assoc, cond-bind, done-bind)
-    (step _ _ _ _ c.start-s.ensures
-    (then _ _ _ _ c.bump-p2.ensures
+    (step _ _ _ _ c.start-p.ensures
+    (then _ _ _ _ c.bump-p.ensures
     (see _ _ _ _ c.at.ensures
     (rw c.if-at.true
-    (then _ _ _ _ c.bump-p3.ensures
-    (step _ _ _ _ c.complete-d.ensures
-    (ends _ _ _ c.complete-d.ensures.fit)))))))
+    (then _ _ _ _ c.bump-p-then-at.ensures
+    (step _ _ _ _ c.complete-p.ensures
+    (ends _ _ _)))))))
 
 pub returns-then-at-2 : goal.returns-then-at-2
 unfolding A.inv_modifier
 returns-then-at-2 c =
     simp (assoc, cond-bind, done-bind)
-    (step _ _ _ _ c.start-s.ensures
-    (then _ _ _ _ c.bump-p2.ensures
+    (step _ _ _ _ c.start-p.ensures
+    (then _ _ _ _ c.bump-p.ensures
     (see _ _ _ _ c.at.ensures
     (rw c.if-at.false
     (see _ _ _ _ c.at-2.ensures
     (rw c.if-at-2.true
-    (step _ _ _ _ c.error-p3.ensures
-    (step _ _ _ _ c.complete-d-then-at-2.ensures
-    (ends _ _ _ c.complete-d-then-at-2.ensures.fit)))))))))
+    (step _ _ _ _ c.error-p.ensures
+    (step _ _ _ _ c.complete-p-then-at-2.ensures
+    (ends _ _ _)))))))))
 
 pub returns : goal.returns
 unfolding A.inv_modifier
 returns c =
     simp (assoc, cond-bind, done-bind)
-    (step _ _ _ _ c.start-s.ensures
-    (then _ _ _ _ c.bump-p2.ensures
+    (step _ _ _ _ c.start-p.ensures
+    (then _ _ _ _ c.bump-p.ensures
     (see _ _ _ _ c.at.ensures
     (rw c.if-at.false
     (see _ _ _ _ c.at-2.ensures
     (rw c.if-at-2.false
-    (step _ _ _ _ c.error-p3-2.ensures
-    (step _ _ _ _ c.complete-d-2.ensures
-    (ends _ _ _ c.complete-d-2.ensures.fit)))))))))
+    (step _ _ _ _ c.error-p-2.ensures
+    (step _ _ _ _ c.complete-p-2.ensures
+    (ends _ _ _)))))))))

@@ -15,4 +15,4 @@ pub returns : goal.returns
 unfolding A.no_argument
 returns c =
     all _ _ (λ e. rw (ne_eqb _ _ c.if-kw-eq-POW_KW.false)
-    (ends _ _ _ c.requires))
+    (ends _ _ _))

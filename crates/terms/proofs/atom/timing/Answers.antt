@@ -4,16 +4,16 @@ use Rattle.runtime.proofs.Laws.{peek, any, ends}
 use Rattle.grammar.specs.Atom as A
 use Rattle.terms.proofs.atom.timing.Goals as goal
 
-pub returns-then-t : goal.returns-then-t
+pub returns-then-begins : goal.returns-then-begins
 unfolding A.timing
-returns-then-t c =
-    peek _ _ _ _ _ c.at_ts-t.ensures
-    (rw c.if-t.true
-    (ends _ _ _ c.at_ts-t.ensures.fit))
+returns-then-begins c =
+    peek _ _ _ _ _ c.at_ts-p.ensures
+    (rw c.if-begins.true
+    (ends _ _ _))
 
 pub returns : goal.returns
 unfolding A.timing
 returns c =
-    peek _ _ _ _ _ c.at_ts-t.ensures
-    (rw c.if-t.false
+    peek _ _ _ _ _ c.at_ts-p.ensures
+    (rw c.if-begins.false
     (any _ _ _ c.error.ensures))

@@ -5,19 +5,19 @@ use Rattle.grammar.proofs.Laws.{assoc, cond-bind, done-bind}
 use Rattle.grammar.specs.Atom as A
 use Rattle.terms.proofs.atom.tuple_comma.Goals as goal
 
-pub returns-then-t : goal.returns-then-t
+pub returns-then-eaten : goal.returns-then-eaten
 unfolding A.tuple_comma
-returns-then-t c =
+returns-then-eaten c =
     simp (assoc, cond-bind, done-bind)
-    (then _ _ _ _ c.eat-t.ensures
-    (rw c.if-t.true
-    (step _ _ _ _ c.error-p2.ensures
-    (ends _ _ _ c.error-p2.ensures.fit))))
+    (then _ _ _ _ c.eat-p.ensures
+    (rw c.if-eaten.true
+    (step _ _ _ _ c.error-p.ensures
+    (ends _ _ _))))
 
 pub returns : goal.returns
 unfolding A.tuple_comma
 returns c =
     simp (assoc, cond-bind, done-bind)
-    (then _ _ _ _ c.eat-t.ensures
-    (rw c.if-t.false
-    (ends _ _ _ c.eat-t.ensures.fit)))
+    (then _ _ _ _ c.eat-p.ensures
+    (rw c.if-eaten.false
+    (ends _ _ _)))

@@ -8,6 +8,6 @@ use Rattle.terms.proofs.atom.tuple_end.Goals as goal
 pub returns : goal.returns
 unfolding A.tuple_end
 returns c =
-    then _ _ _ _ c.expect-t.ensures
+    then _ _ _ _ c.expect-p.ensures
     (rw (sym c.tuple_kind.ensures)
     (any _ _ _ c.complete.ensures))

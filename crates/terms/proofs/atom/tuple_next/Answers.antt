@@ -9,12 +9,12 @@ unfolding A.tuple_next
 returns-then-at c =
     see _ _ _ _ c.at.ensures
     (rw c.if-at.true
-    (ends _ _ _ c.requires))
+    (ends _ _ _))
 
 pub returns : goal.returns
 unfolding A.tuple_next
 returns c =
     see _ _ _ _ c.at.ensures
     (rw c.if-at.false
-    (then _ _ _ _ c.expect-t.ensures
-    (ends _ _ _ c.expect-t.ensures.fit)))
+    (then _ _ _ _ c.expect-p.ensures
+    (ends _ _ _)))

@@ -7,7 +7,7 @@ use Rattle.terms.proofs.expressions.args_end.Goals as goal
 pub returns : goal.returns
 unfolding E.args_end
 returns c =
-    then _ _ _ _ c.expect-t.ensures
-    (step _ _ _ _ c.complete-d.ensures
-    (step _ _ _ _ c.complete-d2.ensures
-    (ends _ _ _ c.complete-d2.ensures.fit)))
+    then _ _ _ _ c.expect-p.ensures
+    (step _ _ _ _ c.complete-p.ensures
+    (step _ _ _ _ c.complete-p-2.ensures
+    (ends _ _ _)))

@@ -8,13 +8,13 @@ use Rattle.terms.proofs.expressions.array_base.Goals as goal
 pub returns-then-has : goal.returns-then-has
 unfolding E.array_base
 returns-then-has c =
-    peek _ _ _ _ _ c.current-l.ensures
+    peek _ _ _ _ _ c.current-p.ensures
     (rw (sym c.has.ensures ∙ c.if-has.true)
-    (ends _ _ _ c.current-l.ensures.fit))
+    (ends _ _ _))
 
 pub returns : goal.returns
 unfolding E.array_base
 returns c =
-    peek _ _ _ _ _ c.current-l.ensures
+    peek _ _ _ _ _ c.current-p.ensures
     (rw (sym c.has.ensures ∙ c.if-has.false)
     (any _ _ _ c.error.ensures))

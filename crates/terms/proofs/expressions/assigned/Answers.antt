@@ -8,11 +8,11 @@ pub returns-then-prefer : goal.returns-then-prefer
 unfolding E.assigned
 returns-then-prefer c =
     rw c.if-prefer.true
-    (then _ _ _ _ c.expect-t.ensures
-    (ends _ _ _ c.expect-t.ensures.fit))
+    (then _ _ _ _ c.expect-p.ensures
+    (ends _ _ _))
 
 pub returns : goal.returns
 unfolding E.assigned
 returns c =
     rw c.if-prefer.false
-    (ends _ _ _ c.requires)
+    (ends _ _ _)

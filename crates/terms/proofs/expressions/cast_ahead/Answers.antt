@@ -6,40 +6,40 @@ use mathlib.Core.Path.{sym, ◌∙◌}
 use Rattle.grammar.specs.Expressions as E
 use Rattle.terms.proofs.expressions.cast_ahead.Goals as goal
 
-pub returns-then-n-eq-L_PAREN : goal.returns-then-n-eq-L_PAREN
+pub returns-then-next-eq-L_PAREN : goal.returns-then-next-eq-L_PAREN
 unfolding E.cast_ahead
-returns-then-n-eq-L_PAREN c =
-    only _ _ _ (λ room. peek _ _ _ _ _ c.current-l.ensures
+returns-then-next-eq-L_PAREN c =
+    only _ _ _ (λ room. peek _ _ _ _ _ c.current-p.ensures
     (rw (sym c.is_classical_type.ensures ∙ c.if-is_classical_type.true)
-    (peek _ _ _ _ _ c.nth-n.ensures
-    (rw (eq-eqb _ _ c.if-n-eq-L_PAREN.true)
-    (ends _ _ _ c.nth-n.ensures.fit)))))
+    (peek _ _ _ _ _ c.nth-p.ensures
+    (rw (eq-eqb _ _ c.if-next-eq-L_PAREN.true)
+    (ends _ _ _)))))
 
-pub returns-then-n2-eq-L_BRACK : goal.returns-then-n2-eq-L_BRACK
+pub returns-then-next1-eq-L_BRACK : goal.returns-then-next1-eq-L_BRACK
 unfolding E.cast_ahead
-returns-then-n2-eq-L_BRACK c =
-    only _ _ _ (λ room. peek _ _ _ _ _ c.current-l.ensures
+returns-then-next1-eq-L_BRACK c =
+    only _ _ _ (λ room. peek _ _ _ _ _ c.current-p.ensures
     (rw (sym c.is_classical_type.ensures ∙ c.if-is_classical_type.true)
-    (peek _ _ _ _ _ c.nth-n.ensures
-    (rw (ne_eqb _ _ c.if-n-eq-L_PAREN.false)
-    (peek _ _ _ _ _ c.nth-n2.ensures
-    (rw (eq-eqb _ _ c.if-n2-eq-L_BRACK.true)
-    (ends _ _ _ c.nth-n2.ensures.fit)))))))
+    (peek _ _ _ _ _ c.nth-p.ensures
+    (rw (ne_eqb _ _ c.if-next-eq-L_PAREN.false)
+    (peek _ _ _ _ _ c.nth-p-then-is_classical_type.ensures
+    (rw (eq-eqb _ _ c.if-next1-eq-L_BRACK.true)
+    (ends _ _ _)))))))
 
 pub returns-then-is_classical_type : goal.returns-then-is_classical_type
 unfolding E.cast_ahead
 returns-then-is_classical_type c =
-    only _ _ _ (λ room. peek _ _ _ _ _ c.current-l.ensures
+    only _ _ _ (λ room. peek _ _ _ _ _ c.current-p.ensures
     (rw (sym c.is_classical_type.ensures ∙ c.if-is_classical_type.true)
-    (peek _ _ _ _ _ c.nth-n.ensures
-    (rw (ne_eqb _ _ c.if-n-eq-L_PAREN.false)
-    (peek _ _ _ _ _ c.nth-n2.ensures
-    (rw (ne_eqb _ _ c.if-n2-eq-L_BRACK.false)
-    (ends _ _ _ c.nth-n2.ensures.fit)))))))
+    (peek _ _ _ _ _ c.nth-p.ensures
+    (rw (ne_eqb _ _ c.if-next-eq-L_PAREN.false)
+    (peek _ _ _ _ _ c.nth-p-then-is_classical_type.ensures
+    (rw (ne_eqb _ _ c.if-next1-eq-L_BRACK.false)
+    (ends _ _ _)))))))
 
 pub returns : goal.returns
 unfolding E.cast_ahead
 returns c =
-    only _ _ _ (λ room. peek _ _ _ _ _ c.current-l.ensures
+    only _ _ _ (λ room. peek _ _ _ _ _ c.current-p.ensures
     (rw (sym c.is_classical_type.ensures ∙ c.if-is_classical_type.false)
-    (ends _ _ _ c.current-l.ensures.fit)))
+    (ends _ _ _)))

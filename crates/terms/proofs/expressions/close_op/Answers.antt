@@ -10,18 +10,18 @@ pub returns-then-has : goal.returns-then-has
 unfolding E.close_op
 returns-then-has c =
     rw (eq-eqb _ _ c.if-op-eq-EQ.true)
-    (step _ _ _ _ c.no_assignment-p1.ensures
+    (step _ _ _ _ c.no_assignment-p.ensures
     (rw (sym c.has.ensures ∙ c.if-has.true)
-    (then _ _ _ _ c.assigned-p2.ensures
+    (then _ _ _ _ c.assigned-p.ensures
     (any _ _ _ c.complete.ensures))))
 
 pub returns-then-op-eq-EQ : goal.returns-then-op-eq-EQ
 unfolding E.close_op
 returns-then-op-eq-EQ c =
     rw (eq-eqb _ _ c.if-op-eq-EQ.true)
-    (step _ _ _ _ c.no_assignment-p1.ensures
+    (step _ _ _ _ c.no_assignment-p.ensures
     (rw (sym c.has.ensures ∙ c.if-has.false)
-    (step _ _ _ _ c.error-p3.ensures
+    (step _ _ _ _ c.error-p.ensures
     (any _ _ _ c.complete-then-op-eq-EQ.ensures))))
 
 pub returns : goal.returns

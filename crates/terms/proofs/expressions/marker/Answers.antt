@@ -4,14 +4,14 @@ use Rattle.runtime.proofs.Laws.{any, all, ends}
 use Rattle.grammar.specs.Expressions as E
 use Rattle.terms.proofs.expressions.marker.Goals as goal
 
-pub returns-in-Given : goal.returns-in-Given
+pub returns-in-Some : goal.returns-in-Some
 unfolding E.marker
-returns-in-Given c =
-    all _ _ (λ e. rw c.in-Given.is
-    (ends _ _ _ c.requires))
+returns-in-Some c =
+    all _ _ (λ e. rw c.in-Some.is
+    (ends _ _ _))
 
-pub returns-in-Fresh : goal.returns-in-Fresh
+pub returns-in-None : goal.returns-in-None
 unfolding E.marker
-returns-in-Fresh c =
-    all _ _ (λ e. rw c.in-Fresh.is
+returns-in-None c =
+    all _ _ (λ e. rw c.in-None.is
     (any _ _ _ c.start.ensures))

@@ -8,7 +8,7 @@ pub returns-then-prefer : goal.returns-then-prefer
 unfolding E.no_assignment
 returns-then-prefer c =
     all _ _ (λ e. rw c.if-prefer.true
-    (ends _ _ _ c.requires))
+    (ends _ _ _))
 
 pub returns : goal.returns
 unfolding E.no_assignment

@@ -8,14 +8,14 @@ pub returns-then-block : goal.returns-then-block
 unfolding E.no_semicolon
 returns-then-block c =
     all _ _ (λ e. rw c.if-block.true
-    (ends _ _ _ c.requires))
+    (ends _ _ _))
 
 pub returns-then-semi : goal.returns-then-semi
 unfolding E.no_semicolon
 returns-then-semi c =
     all _ _ (λ e. rw c.if-block.false
     (rw c.if-semi.true
-    (ends _ _ _ c.requires)))
+    (ends _ _ _)))
 
 pub returns : goal.returns
 unfolding E.no_semicolon

@@ -9,7 +9,7 @@ pub returns-then-cm-eq-ASSIGNMENT_STMT : goal.returns-then-cm-eq-ASSIGNMENT_STMT
 unfolding E.stmt_end
 returns-then-cm-eq-ASSIGNMENT_STMT c =
     rw (eq-eqb _ _ c.if-cm-eq-ASSIGNMENT_STMT.true)
-    (ends _ _ _ c.requires)
+    (ends _ _ _)
 
 pub returns-then-at : goal.returns-then-at
 unfolding E.stmt_end
@@ -17,7 +17,7 @@ returns-then-at c =
     rw (ne_eqb _ _ c.if-cm-eq-ASSIGNMENT_STMT.false)
     (see _ _ _ _ c.at.ensures
     (rw c.if-at.true
-    (ends _ _ _ c.requires)))
+    (ends _ _ _)))
 
 pub returns : goal.returns
 unfolding E.stmt_end
@@ -25,8 +25,8 @@ returns c =
     rw (ne_eqb _ _ c.if-cm-eq-ASSIGNMENT_STMT.false)
     (see _ _ _ _ c.at.ensures
     (rw c.if-at.false
-    (step _ _ _ _ c.precede-s.ensures
-    (then _ _ _ _ c.eat-t.ensures
-    (step _ _ _ _ c.no_semicolon-p3.ensures
-    (step _ _ _ _ c.complete-d.ensures
-    (ends _ _ _ c.complete-d.ensures.fit)))))))
+    (step _ _ _ _ c.precede-p.ensures
+    (then _ _ _ _ c.eat-p.ensures
+    (step _ _ _ _ c.no_semicolon-p.ensures
+    (step _ _ _ _ c.complete-p.ensures
+    (ends _ _ _)))))))

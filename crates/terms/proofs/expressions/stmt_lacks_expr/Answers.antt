@@ -4,27 +4,27 @@ use Rattle.runtime.proofs.Laws.{peek, only, ends}
 use Rattle.grammar.specs.Expressions as E
 use Rattle.terms.proofs.expressions.stmt_lacks_expr.Goals as goal
 
-pub returns-then-c : goal.returns-then-c
+pub returns-then-cast : goal.returns-then-cast
 unfolding E.stmt_lacks_expr
-returns-then-c c =
-    only _ _ _ (λ room. peek _ _ _ _ _ c.cast_ahead-c.ensures
-    (rw c.if-c.true
-    (ends _ _ _ c.cast_ahead-c.ensures.fit)))
+returns-then-cast c =
+    only _ _ _ (λ room. peek _ _ _ _ _ c.cast_ahead-p.ensures
+    (rw c.if-cast.true
+    (ends _ _ _)))
 
-pub returns-then-t : goal.returns-then-t
+pub returns-then-begins : goal.returns-then-begins
 unfolding E.stmt_lacks_expr
-returns-then-t c =
-    only _ _ _ (λ room. peek _ _ _ _ _ c.cast_ahead-c.ensures
-    (rw c.if-c.false
-    (peek _ _ _ _ _ c.at_ts-t.ensures
-    (rw c.if-t.true
-    (ends _ _ _ c.at_ts-t.ensures.fit)))))
+returns-then-begins c =
+    only _ _ _ (λ room. peek _ _ _ _ _ c.cast_ahead-p.ensures
+    (rw c.if-cast.false
+    (peek _ _ _ _ _ c.at_ts-p.ensures
+    (rw c.if-begins.true
+    (ends _ _ _)))))
 
 pub returns : goal.returns
 unfolding E.stmt_lacks_expr
 returns c =
-    only _ _ _ (λ room. peek _ _ _ _ _ c.cast_ahead-c.ensures
-    (rw c.if-c.false
-    (peek _ _ _ _ _ c.at_ts-t.ensures
-    (rw c.if-t.false
-    (ends _ _ _ c.at_ts-t.ensures.fit)))))
+    only _ _ _ (λ room. peek _ _ _ _ _ c.cast_ahead-p.ensures
+    (rw c.if-cast.false
+    (peek _ _ _ _ _ c.at_ts-p.ensures
+    (rw c.if-begins.false
+    (ends _ _ _)))))

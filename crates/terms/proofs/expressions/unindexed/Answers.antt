@@ -15,4 +15,4 @@ pub returns : goal.returns
 unfolding E.unindexed
 returns c =
     all _ _ (λ e. rw (sym c.has.ensures ∙ c.if-has.false)
-    (ends _ _ _ c.requires))
+    (ends _ _ _))

@@ -1,10 +1,8 @@
-use Rattle.std.specs.Prelude.{◌≡◌, ◌-◌, ◌≤◌, length}
+use Rattle.std.proofs.Common.{◌≡◌, ◌≤◌, length, None}
 use Rattle.tokens.proofs.read.read.Given as goal
 
-abbrev pub invariant-loop-i : goal.invariant-loop-i
-invariant-loop-i _ l =
-    (l.i ≤ length l.text) × (length l.kinds ≡ length l.initial.kinds) × (length l.joints ≡ length l.initial.joints)
+abbrev pub invariant-loop-word : goal.invariant-loop-word
+invariant-loop-word _ l = (length l.rest ≤ length l.text) × (l.asked.count ≤ length l.kinds) × (length l.kinds ≡ length l.initial.kinds) × (l.asked.source ≡ None)
 
-abbrev pub decreases-loop-i : goal.decreases-loop-i
-decreases-loop-i _ l =
-    length l.text - l.i
+abbrev pub decreases-loop-word : goal.decreases-loop-word
+decreases-loop-word _ l = length l.rest

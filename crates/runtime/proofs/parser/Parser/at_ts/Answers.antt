@@ -5,4 +5,4 @@ use Rattle.runtime.proofs.parser.Parser.at_ts.Goals as goal
 
 pub returns : goal.returns
 unfolding at_ts
-returns c = only _ _ _ (λ room. peek _ _ _ _ _ c.current-l.ensures (rw c.has.ensures (ends _ _ _ c.current-l.ensures.fit)))
+returns c = only _ _ _ (λ room. peek _ _ _ _ _ c.current-p.ensures (rw c.has.ensures (ends _ _ _)))

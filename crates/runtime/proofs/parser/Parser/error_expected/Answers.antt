@@ -3,4 +3,4 @@ use Rattle.runtime.proofs.Cases.{expected-done}
 use Rattle.runtime.proofs.parser.Parser.error_expected.Goals as goal
 
 pub returns : goal.returns
-returns c = expected-done _ _ _ c.requires c.ahead-found.ensures c.push_event.ensures.same
+returns c = expected-done _ _ _ c.ahead-found.ensures c.push_event.ensures

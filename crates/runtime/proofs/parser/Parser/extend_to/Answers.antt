@@ -4,4 +4,4 @@ use Rattle.runtime.proofs.Cases.{extend-done}
 use Rattle.runtime.proofs.parser.Parser.extend_to.Goals as goal
 
 pub returns : goal.returns
-returns c = extend-done _ _ _ _ c.requires (grind arith) c.link-p.ensures.same
+returns c = extend-done _ _ _ _ (grind arith) c.link-p.ensures

@@ -5,7 +5,7 @@ use Rattle.runtime.proofs.parser.Parser.must.Goals as goal
 
 pub returns-then-nth_at : goal.returns-then-nth_at
 unfolding must
-returns-then-nth_at c = see _ _ _ _ c.nth_at.ensures (so _ _ _ _ c.if-nth_at.true (ends _ _ _ c.requires))
+returns-then-nth_at c = see _ _ _ _ c.nth_at.ensures (so _ _ _ _ c.if-nth_at.true (ends _ _ _))
 
 pub returns : goal.returns
 unfolding must

@@ -1,6 +1,0 @@
--- `steps::steps_room` has as many bytes as it says. Assumes nothing.
-use Rattle.laws.proofs.Rooms.{room-length}
-use Rattle.steps.proofs.steps_room.Goals as goal
-
-pub returns : goal.returns
-returns c = room-length 655360 0
