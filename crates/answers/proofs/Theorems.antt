@@ -15,14 +15,44 @@ use Rattle.runtime.specs.State.{view, new}
 use Rattle.laws.proofs.Tests.{by-test, apart}
 use Rattle.parse.specs.declared.Entry.{Entry}
 use Rattle.parse.specs.declared.Entry.TheVariants.{SourceFile, Item, Expression}
+use Rattle.std.proofs.Common.{Result, Ok, Err}
+use Rattle.parse.specs.declared.Parsed.{Parsed}
+use Rattle.parse.specs.declared.Refusal.{Refusal}
+use Rattle.parse.specs.declared.Refusal.TheVariants.{Mode, TooMany, FewJoints, Kind, NoRoom, Deep, Lookups, Panic}
+use Rattle.parse.specs.Answer.{numbers}
 use Rattle.parse.specs.Parse.{Answer}
 use Rattle.parse.specs.Parse.{Lent, Outcome, ends, refuses, bad_mode, too_many, few_joints, first_fault, not_permitted, acts_of, ran, leaves, number_of, settled, parsed}
 use Rattle.answers.specs.Refusals.{reaches, reason, conditions, condition, first, place_of, left_by, handed_out, row}
 use Rattle.answers.proofs.Reached.{met-run, met-reason, Reason, Reason.none, Reason.room, Reason.deep, Reason.lookups, Reason.panic}
 
--- Two answers that meet the contract of `parse` are equal, with the rooms that they leave.
-pub parse-unique : (l : Lent) (a b : Answer) (r t : List ℕ) → parsed l ≡ ends a r → parsed l ≡ ends b t → (a ≡ b) × (r ≡ t)
-parse-unique l a b r t p q = let e : ends a r ≡ ends b t = sym p ∙ q in (ap (λ (o : Outcome). o.answer) e, ap (λ (o : Outcome). o.room) e)
+-- the result that has these numbers: so no two results have the same
+abbrev said : Answer → Result Parsed Refusal
+said a =
+    cond (eqb a.code 0) (Ok (record { tokens = a.place; events = a.events; lookups = a.lookups }))
+    (cond (eqb a.code 1) (Err Mode)
+    (cond (eqb a.code 2) (Err TooMany)
+    (cond (eqb a.code 3) (Err FewJoints)
+    (cond (eqb a.code 4) (Err (Kind a.place))
+    (cond (eqb a.code 5) (Err (NoRoom a.place))
+    (cond (eqb a.code 6) (Err (Deep a.place))
+    (cond (eqb a.code 7) (Err (Lookups a.place)) (Err (Panic a.place)))))))))
+
+is-said : (r : Result Parsed Refusal) → said (numbers r) ≡ r
+is-said (Ok p) = refl
+is-said (Err Mode) = refl
+is-said (Err TooMany) = refl
+is-said (Err FewJoints) = refl
+is-said (Err (Kind n)) = refl
+is-said (Err (NoRoom n)) = refl
+is-said (Err (Deep n)) = refl
+is-said (Err (Lookups n)) = refl
+is-said (Err (Panic n)) = refl
+
+-- Two results that meet the contract of `parse` are equal, with the rooms that they leave.
+pub parse-unique : (l : Lent) (a b : Result Parsed Refusal) (r t : List ℕ) → parsed l ≡ ends (numbers a) r → parsed l ≡ ends (numbers b) t → (a ≡ b) × (r ≡ t)
+parse-unique l a b r t p q =
+    let e : ends (numbers a) r ≡ ends (numbers b) t = sym p ∙ q in
+    (sym (is-said a) ∙ ap (λ (o : Outcome). said o.answer) e ∙ is-said b, ap (λ (o : Outcome). o.room) e)
 
 -- the run's number and place, and what it meets
 module _ (l : Lent) where

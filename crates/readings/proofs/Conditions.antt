@@ -1,10 +1,10 @@
 -- When lexing refuses, with which number and place, and what it leaves: exactly where the conditions say so. Assumes nothing.
 use mathlib.Core.Path.{◌≡◌, refl, sym, ap, subst, ◌∙◌}
-use mathlib.Core.Bool.{Bool, true, false}
+use mathlib.Core.Bool.{Bool, true, false, cond}
 use mathlib.Core.List.{List}
 use Prim.Native.Nat.{ℕ, ◌+◌, ◌*◌, ◌/◌, ◌≤◌, ◌<◌}
 use native.Mathlib.Omega.{arith}
-use lib.Dec.{ltb, leb}
+use lib.Dec.{eqb, ltb, leb}
 use lib.ListN.{length}
 use borrow.Author.Tests.{ltb-true, ltb-false, leb-false}
 use Rattle.kinds.specs.Membership.{both}
@@ -12,7 +12,11 @@ use Rattle.laws.proofs.Tests.{apart}
 use Rattle.lexical.specs.Lexed.{Token, lexed}
 use Rattle.lexical.specs.Rules.{rules}
 use Rattle.lexical.proofs.Theorem.{lexed-right}
-use Rattle.lex.specs.Answer.{Answer}
+use Rattle.std.proofs.Common.{Result, Ok, Err}
+use Rattle.lex.specs.declared.Lexed.{Lexed}
+use Rattle.lex.specs.declared.Refusal.{Refusal}
+use Rattle.lex.specs.declared.Refusal.TheVariants.{TooLong, NoRoom}
+use Rattle.lex.specs.Answer.{Answer, numbers}
 use Rattle.lex.specs.Lexing.{kinds_in, fits, Lent, Outcome, ends, says, refuses, writes, lexing}
 use Rattle.lex.proofs.Laws.{Held, held}
 use Rattle.lex.proofs.Placed.{written, refused, too_long, not-long}
@@ -136,8 +140,17 @@ module _ (l : Lent) where
 
 -- ---- one answer
 
--- Two answers with the rooms that they leave that meet the contract of `lex` are the same.
-pub lex-unique : (l : Lent) (a b : Answer) (ka ja ta kb jb tb : List ℕ) → lexing l ≡ ends a ka ja ta → lexing l ≡ ends b kb jb tb → (a ≡ b) × (ka ≡ kb) × (ja ≡ jb) × (ta ≡ tb)
+-- the result that has these numbers: so no two results have the same
+abbrev said : Answer → Result Lexed Refusal
+said a = cond (eqb a.code 0) (Ok (record { tokens = a.place; kinds = a.kinds })) (cond (eqb a.code 14) (Err TooLong) (Err (NoRoom a.place)))
+
+is-said : (r : Result Lexed Refusal) → said (numbers r) ≡ r
+is-said (Ok n) = refl
+is-said (Err TooLong) = refl
+is-said (Err (NoRoom n)) = refl
+
+-- Two results that meet the contract of `lex` are the same, with the rooms that they leave.
+pub lex-unique : (l : Lent) (a b : Result Lexed Refusal) (ka ja ta kb jb tb : List ℕ) → lexing l ≡ ends (numbers a) ka ja ta → lexing l ≡ ends (numbers b) kb jb tb → (a ≡ b) × (ka ≡ kb) × (ja ≡ jb) × (ta ≡ tb)
 lex-unique l a b ka ja ta kb jb tb p q =
-    let e : ends a ka ja ta ≡ ends b kb jb tb = sym p ∙ q in
-    (ap (λ (o : Outcome). o.answer) e, ap (λ (o : Outcome). o.kinds) e, ap (λ (o : Outcome). o.joints) e, ap (λ (o : Outcome). o.tokens) e)
+    let e : ends (numbers a) ka ja ta ≡ ends (numbers b) kb jb tb = sym p ∙ q in
+    (sym (is-said a) ∙ ap (λ (o : Outcome). said o.answer) e ∙ is-said b, ap (λ (o : Outcome). o.kinds) e, ap (λ (o : Outcome). o.joints) e, ap (λ (o : Outcome). o.tokens) e)
