@@ -1,5 +1,5 @@
 // Events from text, a line each.
-ghost use Rattle.std.specs.Prelude.{◌+◌, ◌*◌, ◌≤◌, ◌<◌, length, IfSome};
+ghost use Rattle.std.specs.Prelude.{◌≡◌, ◌+◌, ◌*◌, ◌≤◌, ◌<◌, ℕ, length, drop, IfSome};
 
 use text::number::field;
 use text::split_line;
@@ -11,8 +11,10 @@ pub struct List<'a> {
     pub next: Option<&'a [u8]>,
 }
 
-// The kind behind a space; `-` is 0.
-fn kind(line: &[u8]) -> Option<(u16, &[u8])> {
+// The kind behind a space, and what stands behind it in the line; `-` is 0.
+fn kind(line: &[u8]) -> Option<(u16, &[u8])>
+    ensures { IfSome result (λ k. (n : ℕ) × (k.1.now ≡ drop n line.now)) }
+{
     if let Some(rest) = line.strip_prefix(b" -") {
         return Some((0, rest));
     }
@@ -49,6 +51,7 @@ pub fn list_at<'a>(text: &'a [u8], words: &mut [u32]) -> List<'a>
     requires { 2 * length text.now ≤ length words.old }
     ensures count { result.count ≤ length words.new }
     ensures next { IfSome result.next (λ t. length t.now < length text.entry.now) }
+    ensures behind { IfSome result.next (λ t. (n : ℕ) × (t.now ≡ drop n text.entry.now)) }
 {
     let mut rest = text;
     // Stays (plainer): the words that have been read; each event is two, and a line may have none.

@@ -5,7 +5,7 @@ ghost use Rattle.std.specs.Prelude.{◌≤◌, ◌<◌, length, IfOk};
 
 use cases::left::{BYTE, WORD, put_parsed, put_resolved};
 use cases::numbers::numbers;
-use cases::{BYTES, Head, WORDS, head_of, read_parse, read_resolve};
+use cases::{BYTES, Head, Parse, Resolve, WORDS, head_of, read_parse, read_resolve};
 use event::EVENT_WORDS;
 use lists::Refusal;
 use parse::Entry;
@@ -18,22 +18,19 @@ fn put_bad<W: Write>(out: &mut W) -> io::Result<()> {
     write!(out, "bad line")
 }
 
-fn parse_case<W: Write>(out: &mut W, line: &[u8], entry: Entry) -> io::Result<()> {
-    let mut kinds: [u16; 8256] = room(0);
-    let mut joints: [u64; 256] = room(0);
-    let Some(case) = read_parse(line, &mut kinds, &mut joints) else {
-        return put_bad(out);
-    };
+// Parses what a case has lent. Its room is made here, where a line that is no case does not come: a function pays for its rooms as it begins.
+fn run_parse<W: Write>(
+    out: &mut W,
+    entry: Entry,
+    case: Parse,
+    kinds: &[u16],
+    joints: &[u64],
+) -> io::Result<()>
+    requires { case.room ≤ 131080 }
+{
     let mut words: [u32; WORDS] = room(WORD);
     let lent = &mut words[..case.room];
-    let said = parse::parse(
-        entry,
-        case.mode,
-        &kinds[..case.kinds],
-        &joints[..case.joints],
-        lent,
-    );
-    let done = match said {
+    let done = match parse::parse(entry, case.mode, kinds, joints, lent) {
         Ok(p) => {
             write!(out, "0 {} {} {}", p.tokens, p.events, p.lookups)?;
             Ok(EVENT_WORDS * p.events as usize)
@@ -44,6 +41,21 @@ fn parse_case<W: Write>(out: &mut W, line: &[u8], entry: Entry) -> io::Result<()
         }
     };
     put_parsed(out, done, lent)
+}
+
+fn parse_case<W: Write>(out: &mut W, line: &[u8], entry: Entry) -> io::Result<()> {
+    let mut kinds: [u16; 8256] = room(0);
+    let mut joints: [u64; 256] = room(0);
+    match read_parse(line, &mut kinds, &mut joints) {
+        Some(case) => run_parse(
+            out,
+            entry,
+            case,
+            &kinds[..case.kinds],
+            &joints[..case.joints],
+        ),
+        None => put_bad(out),
+    }
 }
 
 // The number and the place of what a check or a resolution answers.
@@ -59,18 +71,25 @@ fn check_case<W: Write>(out: &mut W, line: &[u8]) -> io::Result<()> {
     put_answer(out, lists::check(&words[..count]))
 }
 
-fn resolve_case<W: Write>(out: &mut W, line: &[u8]) -> io::Result<()> {
-    let mut words: [u32; WORDS] = room(0);
-    let Some(case) = read_resolve(line, &mut words) else {
-        return put_bad(out);
-    };
-    let kept = words;
+// Resolves the list that a case has lent, in rooms that are made here for the same reason.
+fn run_resolve<W: Write>(out: &mut W, case: Resolve, words: &mut [u32; WORDS]) -> io::Result<()>
+    requires { (case.room ≤ 655368) × (case.words ≤ 131080) }
+{
+    let kept = *words;
     let list = &mut words[..case.words];
     let mut bytes: [u8; BYTES] = room(BYTE);
     let lent = &mut bytes[..case.room];
     let a = events::resolve(list, lent);
     put_answer(out, a)?;
     put_resolved(out, a.ok(), lent, list, &kept[..case.words])
+}
+
+fn resolve_case<W: Write>(out: &mut W, line: &[u8]) -> io::Result<()> {
+    let mut words: [u32; WORDS] = room(0);
+    match read_resolve(line, &mut words) {
+        Some(case) => run_resolve(out, case, &mut words),
+        None => put_bad(out),
+    }
 }
 
 // Answers a line, without its line feed, by its head.

@@ -5,10 +5,13 @@ ghost use Rattle.std.specs.Prelude.{◌≡◌, ◌≤◌, ◌<◌, ℕ, drop, If
 fn digit(b: u8, base: u64) -> Option<u64>
     ensures { IfSome result (λ d. d < base) }
 {
-    char::from(b)
-        .to_digit(16)
-        .map(u64::from)
-        .filter(|&d| d < base)
+    let worth = match b {
+        b'0'..=b'9' => b - b'0',
+        b'a'..=b'f' => b - b'a' + 10,
+        b'A'..=b'F' => b - b'A' + 10,
+        _ => return None,
+    };
+    Some(u64::from(worth)).filter(|&d| d < base)
 }
 
 // The number of a base that is at most the given one.
@@ -17,21 +20,22 @@ pub fn digits(line: &[u8], base: u64, most: u64) -> Option<(u64, &[u8])>
     ensures value { IfSome result (λ n. n.0 ≤ most) }
     ensures rest { IfSome result (λ n. (k : ℕ) × (n.1.now ≡ drop k line.now)) }
 {
-    let count = line
-        .iter()
-        .position(|&b| digit(b, base).is_none())
-        .unwrap_or(line.len());
-    if count == 0 {
-        return None;
-    }
     let mut value: u64 = 0;
-    for &b in &line[..count] {
-        value = value.checked_mul(base)?.checked_add(digit(b, base)?)?;
+    let mut rest = line;
+    while let [b, others @ ..] = rest {
+        let Some(d) = digit(*b, base) else {
+            break;
+        };
+        value = value.checked_mul(base)?.checked_add(d)?;
         if value > most {
             return None;
         }
+        rest = others;
     }
-    Some((value, &line[count..]))
+    if rest.len() == line.len() {
+        return None;
+    }
+    Some((value, rest))
 }
 
 // The number behind a mark.

@@ -2,8 +2,8 @@
 ghost use Rattle.std.specs.Prelude.{◌≤◌, ◌<◌, length, IfOk, IfSome};
 
 use crate::table::kind_named;
+use std::io;
 use std::io::Write;
-use std::{fmt, io};
 use text::number::digits;
 use text::split_line;
 
@@ -64,12 +64,13 @@ enum Bad {
     Directive,
 }
 
-impl fmt::Display for Bad {
-    fn fmt<W: fmt::Write>(&self, f: &mut fmt::Formatter<W>) -> fmt::Result {
-        f.write_str(match self {
-            Bad::Kind => "no kind",
-            Bad::Directive => "no directive here",
-        })
+impl Bad {
+    // What is said between the line and the word, in one piece, which takes one write.
+    fn said(self) -> &'static [u8] {
+        match self {
+            Bad::Kind => b": no kind: ",
+            Bad::Directive => b": no directive here: ",
+        }
     }
 }
 
@@ -140,10 +141,21 @@ fn hold(kinds: &mut [u16], joints: &mut [u64], count: usize, kind: u16, joint: b
     count + 1
 }
 
+// How many lines of a text have ended.
+fn lines_ended(text: &[u8]) -> u64
+    ensures { result ≤ length text.now }
+{
+    let mut ended = 0;
+    for &b in text {
+        ended += u64::from(b == b'\n');
+    }
+    ended
+}
+
 // Says that a word is bad, and where: in the line that ends with it or behind it.
 fn say_bad<W: Write>(out: &mut W, read: &[u8], word: &[u8], bad: Bad) -> io::Result<()> {
-    let ended = read.iter().filter(|&&b| b == b'\n').count();
-    write!(out, "line {}: {bad}: ", ended + 1)?;
+    write!(out, "line {}", lines_ended(read) + 1)?;
+    out.write_all(bad.said())?;
     out.write_all(word)?;
     writeln!(out)
 }
