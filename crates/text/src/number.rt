@@ -2,6 +2,7 @@
 ghost use Rattle.std.specs.Prelude.{◌≡◌, ◌≤◌, ◌<◌, ℕ, drop, IfSome};
 
 // What a byte is worth as a digit of a base up to 16.
+// Stays (speed): by a `match`; std's `to_digit` takes five instructions a digit more, and `replay` reads millions.
 fn digit(b: u8, base: u64) -> Option<u64>
     ensures { IfSome result (λ d. d < base) }
 {

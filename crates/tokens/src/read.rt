@@ -65,7 +65,7 @@ enum Bad {
 }
 
 impl Bad {
-    // What is said between the line and the word, in one piece, which takes one write.
+    // Stays (speed): no `Display`; what is said between the line and the word is one piece, which takes one write.
     fn said(self) -> &'static [u8] {
         match self {
             Bad::Kind => b": no kind: ",
